@@ -1,0 +1,5 @@
+-- Laws on lists, bits and sets of letters, once for every crate above. What the kit has already:
+-- `lib.Seq` and `lib.ListN` (lists), `lib.Pow` and `lib.Bits` (powers of 2, masks),
+-- `native.Mathlib.Nat` (numbers).
+pub mod Lists
+pub mod Bits

@@ -1,0 +1,100 @@
+-- Tests over lists: what a loop that counts from the front needs, and what passing says of each
+-- element. Assumes nothing.
+use Prim.Native.Nat.{ℕ, zero, suc, _+_, _<_, _≤_}
+use native.Mathlib.Numerals.{add-one}
+use native.Mathlib.Omega.{arith}
+use mathlib.Core.Bool.{Bool, true, false, _&&_, _||_, and-assoc}
+use mathlib.Core.List.{List, [], _∷_, _++_}
+use mathlib.Core.Path.{_≡_, refl, sym}
+use lib.ListN.{length, getD, take, drop, length-take, drop-of-length-le}
+use lib.Seq.{drop-cons, getD-take}
+use Rattle.letters.specs.Lists.{every, some}
+
+-- Both halves of a test that passed.
+pub and-left : (a b : Bool) → (a && b) ≡ true → a ≡ true
+and-left true b h = refl
+and-left false b h = h
+
+pub and-right : (a b : Bool) → (a && b) ≡ true → b ≡ true
+and-right true b h = h
+and-right false b h = absurd (let z : _≡_ {A = ℕ} 0 1 = cc in omega arith)
+
+module _ {A : Type 0} (test : A → Bool) where
+  -- The test of the elements from i on is that of element i and of those behind it.
+  pub every-drop : (xs : List A) (i : ℕ) (d : A) → i < length xs
+      → every test (drop i xs) ≡ (test (getD xs i d) && every test (drop (i + 1) xs))
+  unfolding every
+  every-drop xs i d h = rw (drop-cons xs i d h, add-one)
+
+  pub every-end : (xs : List A) (i : ℕ) → length xs ≤ i → every test (drop i xs) ≡ true
+  unfolding every
+  every-end xs i h = rw (drop-of-length-le xs h)
+
+  pub some-drop : (xs : List A) (i : ℕ) (d : A) → i < length xs
+      → some test (drop i xs) ≡ (test (getD xs i d) || some test (drop (i + 1) xs))
+  unfolding some
+  some-drop xs i d h = rw (drop-cons xs i d h, add-one)
+
+  pub some-end : (xs : List A) (i : ℕ) → length xs ≤ i → some test (drop i xs) ≡ false
+  unfolding some
+  some-end xs i h = rw (drop-of-length-le xs h)
+
+  -- Where every element passes, the one at i does.
+  pub every-at : (xs : List A) (i : ℕ) (d : A) → every test xs ≡ true → i < length xs
+      → test (getD xs i d) ≡ true
+  unfolding every
+  every-at [] i d e h = absurd (omega arith)
+  every-at (x ∷ xs) zero d e h = and-left (test x) (every test xs) e
+  every-at (x ∷ xs) (suc i) d e h =
+      every-at xs i d (and-right (test x) (every test xs) e) (omega arith)
+
+  pub every-append : (xs ys : List A) → every test (xs ++ ys) ≡ (every test xs && every test ys)
+  unfolding every
+  every-append [] ys = refl
+  every-append (x ∷ xs) ys = rw (every-append xs ys)
+      (sym (and-assoc (test x) (every test xs) (every test ys)))
+
+-- A loop's turn at element i: `-next` where it goes on, `-stop` where it settles the answer.
+module _ {A : Type 0} (test : A → Bool) (xs : List A) (i : ℕ) (d : A) (h : i < length xs) where
+  pub every-next : test (getD xs i d) ≡ true
+      → every test (drop i xs) ≡ every test (drop (i + 1) xs)
+  every-next e = rw (every-drop test xs i d h, e)
+
+  pub every-stop : test (getD xs i d) ≡ false → every test (drop i xs) ≡ false
+  every-stop e = rw (every-drop test xs i d h, e)
+
+  pub some-next : test (getD xs i d) ≡ false
+      → some test (drop i xs) ≡ some test (drop (i + 1) xs)
+  some-next e = rw (some-drop test xs i d h, e)
+
+  pub some-stop : test (getD xs i d) ≡ true → some test (drop i xs) ≡ true
+  some-stop e = rw (some-drop test xs i d h, e)
+
+-- The same turn over the first n elements.
+pub lt-length-take : {A : Type 0} (n : ℕ) (xs : List A) (i : ℕ) → i < n → i < length xs
+    → i < length (take n xs)
+lt-length-take n xs i h k = rw length-take (omega arith)
+
+module _ {A : Type 0} (test : A → Bool) (n : ℕ) (xs : List A) (i : ℕ) (d : A)
+    (h : i < n) (k : i < length xs) where
+  pub every-take-next : test (getD xs i d) ≡ true
+      → every test (drop i (take n xs)) ≡ every test (drop (i + 1) (take n xs))
+  every-take-next e = every-next test (take n xs) i d (lt-length-take n xs i h k) (rw getD-take e)
+
+  pub every-take-stop : test (getD xs i d) ≡ false → every test (drop i (take n xs)) ≡ false
+  every-take-stop e = every-stop test (take n xs) i d (lt-length-take n xs i h k) (rw getD-take e)
+
+  pub some-take-next : test (getD xs i d) ≡ false
+      → some test (drop i (take n xs)) ≡ some test (drop (i + 1) (take n xs))
+  some-take-next e = some-next test (take n xs) i d (lt-length-take n xs i h k) (rw getD-take e)
+
+  pub some-take-stop : test (getD xs i d) ≡ true → some test (drop i (take n xs)) ≡ true
+  some-take-stop e = some-stop test (take n xs) i d (lt-length-take n xs i h k) (rw getD-take e)
+
+-- All parts of a test of four that passed.
+pub and-four : (a b c d : Bool) → (a && b && c && d) ≡ true
+    → (a ≡ true) × (b ≡ true) × (c ≡ true) × (d ≡ true)
+and-four a b c d h =
+    let abc = and-left (a && b && c) d h in
+    let ab = and-left (a && b) c abc in
+    (and-left a b ab, and-right a b ab, and-right (a && b) c abc, and-right (a && b && c) d h)

@@ -1,0 +1,60 @@
+-- The three checks of the step rules, by how the code's shared check ends. Assumes nothing.
+use Prim.Native.Nat.{ℕ, _+_}
+use mathlib.Core.Bool.{Bool, true, false, _&&_, cond}
+use mathlib.Core.Path.{_≡_, refl}
+use lib.Dec.{leb, ltb}
+use Rattle.table.specs.Row.{holds, tc, tee, ase, ac, aee}
+use Rattle.table.specs.declared.Row.{Row}
+use Rattle.step.specs.declared.Phase.{Phase}
+use Rattle.step.specs.declared.Phase.the-variants.{Waiting, Trigger, Delay, Action, Broken}
+use Rattle.step.specs.declared.Checked.{Checked}
+use Rattle.step.specs.declared.Checked.the-variants.{Over, On, Out}
+use Rattle.step.specs.Step.{actionCheck, delayCheck, triggerCheck}
+use Rattle.step.specs.Check.{checkOf}
+
+-- What each check makes of the shared one; `over` is the phase if this one is over.
+unfoldable pub actionEnds : Checked → Phase
+actionEnds Over = Waiting
+actionEnds (On n) = Action n
+actionEnds Out = Broken
+
+unfoldable pub delayEnds : Phase → Checked → Phase
+delayEnds over Over = over
+delayEnds over (On n) = Delay n
+delayEnds over Out = Broken
+
+unfoldable pub triggerEnds : Phase → Checked → Phase
+triggerEnds over Over = over
+triggerEnds over (On n) = Trigger n
+triggerEnds over Out = Waiting
+
+-- A choice of phases is what a check's ending gives of the choice of endings.
+ends : (f : Checked → Phase) (a b : Bool) (n : ℕ)
+    → cond a (f Over) (cond b (f (On n)) (f Out)) ≡ f (cond a Over (cond b (On n) Out))
+ends f true b n = refl
+ends f false true n = refl
+ends f false false n = refl
+
+module _ (row : Row) (letter t : ℕ) where
+  pub action-ends : actionCheck row letter t ≡
+      actionEnds (checkOf (holds row aee letter) (holds row ac letter) (row .amin) (row .amax) t)
+  unfolding actionCheck actionEnds
+  action-ends =
+      ends actionEnds (holds row aee letter && leb (row .amin) t)
+      (holds row ac letter && ltb t (row .amax)) (t + 1)
+
+  pub delay-ends : delayCheck row letter t ≡
+      delayEnds (actionCheck row letter 0)
+      (checkOf (holds row ase letter) true (row .lmin) (row .lmax) t)
+  unfolding delayCheck delayEnds
+  delay-ends =
+      ends (delayEnds (actionCheck row letter 0)) (holds row ase letter && leb (row .lmin) t)
+      (ltb t (row .lmax)) (t + 1)
+
+  pub trigger-ends : triggerCheck row letter t ≡
+      triggerEnds (delayCheck row letter 0)
+      (checkOf (holds row tee letter) (holds row tc letter) (row .tmin) (row .tmax) t)
+  unfolding triggerCheck triggerEnds
+  trigger-ends =
+      ends (triggerEnds (delayCheck row letter 0)) (holds row tee letter && leb (row .tmin) t)
+      (holds row tc letter && ltb t (row .tmax)) (t + 1)

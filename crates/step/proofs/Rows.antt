@@ -1,0 +1,135 @@
+-- What a letter does to one row, and to rows of any number. Assumes nothing.
+use Prim.Native.Nat.{ℕ, zero, suc, _+_, _<_, _≤_}
+use native.Mathlib.Omega.{arith}
+use mathlib.Core.Bool.{Bool, true, false, _&&_, _||_, cond, or-true}
+use mathlib.Core.List.{List, [], _∷_}
+use mathlib.Core.Path.{_≡_, refl, ap}
+use borrow.Author.Tests.{ltb-true}
+use lib.Dec.{leb, ltb}
+use lib.ListN.{length, getD}
+use Rattle.letters.proofs.Lists.{and-right}
+use Rattle.letters.specs.Lists.{some}
+use Rattle.table.specs.Row.{holds, tse, tc, tee, ase, ac, aee, noRow}
+use Rattle.table.specs.declared.Row.{Row}
+use Rattle.step.specs.declared.Phase.{Phase}
+use Rattle.step.specs.declared.Phase.the-variants.{Waiting, Trigger, Delay, Action, Broken}
+use Rattle.step.specs.Phase.{isBroken}
+use Rattle.step.specs.Step.{actionCheck, delayCheck, triggerCheck, stepRow}
+use Rattle.step.specs.Tick.{tick, someBroken}
+use Rattle.step.specs.Fits.{ticksFit, phaseFits, phasesFit}
+use Rattle.step.proofs.Codes.{ticks-fit}
+
+-- A choice fits if what is chosen fits.
+fits-cond : (row : Row) (b : Bool) (p o : Phase) → phaseFits row p ≡ true
+    → (b ≡ false → phaseFits row o ≡ true)
+    → phaseFits row (cond b p o) ≡ true
+fits-cond row true p o hp ho = hp
+fits-cond row false p o hp ho = ho refl
+
+-- One more tick fits where a test found room for it.
+fits-more : (row : Row) (hold : Bool) (t most : ℕ) (p o : Phase) → phaseFits row o ≡ true
+    → (ticksFit most (t + 1) ≡ true → phaseFits row p ≡ true)
+    → phaseFits row (cond (hold && ltb t most) p o) ≡ true
+fits-more row hold t most p o ho hp = go (hold && ltb t most) refl
+  where
+    go : (b : Bool) → (hold && ltb t most) ≡ b → phaseFits row (cond b p o) ≡ true
+    go true e = hp (ticks-fit most (t + 1) (omega arith)
+        (omega (arith, ltb-true t most (and-right hold (ltb t most) e))))
+    go false e = ho
+
+module _ (row : Row) (letter : ℕ) where
+  action-fits : (a : ℕ) → phaseFits row (actionCheck row letter a) ≡ true
+  unfolding actionCheck phaseFits
+  action-fits a =
+      fits-cond row (holds row aee letter && leb (row .amin) a) Waiting _ refl
+      (λ _. fits-more row (holds row ac letter) a (row .amax) (Action (a + 1)) Broken refl (λ h. h))
+
+  delay-fits : (d : ℕ) → phaseFits row (delayCheck row letter d) ≡ true
+  unfolding delayCheck phaseFits
+  delay-fits d =
+      fits-cond row (holds row ase letter && leb (row .lmin) d) (actionCheck row letter 0) _
+      (action-fits 0)
+      (λ _. fits-more row true d (row .lmax) (Delay (d + 1)) Broken refl (λ h. h))
+
+  trigger-fits : (t : ℕ) → phaseFits row (triggerCheck row letter t) ≡ true
+  unfolding triggerCheck phaseFits
+  trigger-fits t =
+      fits-cond row (holds row tee letter && leb (row .tmin) t) (delayCheck row letter 0) _
+      (delay-fits 0)
+      (λ _. fits-more row (holds row tc letter) t (row .tmax) (Trigger (t + 1)) Waiting refl
+      (λ h. h))
+
+  -- Whatever the phase was, after a letter number 18 lets it by.
+  pub step-fits : (phase : Phase) → phaseFits row (stepRow row letter phase) ≡ true
+  unfolding stepRow phaseFits
+  step-fits Waiting = fits-cond row (holds row tse letter) (triggerCheck row letter 0) Waiting
+      (trigger-fits 0) (λ _. refl)
+  step-fits (Trigger t) = trigger-fits t
+  step-fits (Delay d) = delay-fits d
+  step-fits (Action a) = action-fits a
+  step-fits Broken = refl
+
+  -- "Broken stays broken."
+  pub step-broken : (phase : Phase) → isBroken phase ≡ true
+      → isBroken (stepRow row letter phase) ≡ true
+  unfolding stepRow isBroken
+  step-broken Waiting h = absurd (let z : _≡_ {A = ℕ} 0 1 = cc in omega arith)
+  step-broken (Trigger t) h = absurd (let z : _≡_ {A = ℕ} 0 1 = cc in omega arith)
+  step-broken (Delay d) h = absurd (let z : _≡_ {A = ℕ} 0 1 = cc in omega arith)
+  step-broken (Action a) h = absurd (let z : _≡_ {A = ℕ} 0 1 = cc in omega arith)
+  step-broken Broken h = refl
+
+-- A tick keeps the number of phases.
+pub tick-length : (rows : List Row) (letter : ℕ) (phases : List Phase)
+    → length (tick rows letter phases) ≡ length phases
+unfolding tick
+tick-length [] letter phases = refl
+tick-length (row ∷ rows) letter [] = refl
+tick-length (row ∷ rows) letter (phase ∷ phases) = ap suc (tick-length rows letter phases)
+
+-- A row is moved on by its own rules, whatever the others do.
+pub tick-at : (rows : List Row) (letter : ℕ) (phases : List Phase) (i : ℕ) → i < length rows
+    → i < length phases
+    → getD (tick rows letter phases) i Waiting
+    ≡ stepRow (getD rows i noRow) letter (getD phases i Waiting)
+unfolding tick
+tick-at [] letter phases i h k = absurd (omega arith)
+tick-at (row ∷ rows) letter [] i h k = absurd (omega arith)
+tick-at (row ∷ rows) letter (phase ∷ phases) zero h k = refl
+tick-at (row ∷ rows) letter (phase ∷ phases) (suc i) h k =
+    tick-at rows letter phases i (omega arith) (omega arith)
+
+-- A phase without a row stays.
+pub tick-beyond : (rows : List Row) (letter : ℕ) (phases : List Phase) (i : ℕ) → length rows ≤ i
+    → getD (tick rows letter phases) i Waiting ≡ getD phases i Waiting
+unfolding tick
+tick-beyond [] letter phases i h = refl
+tick-beyond (row ∷ rows) letter [] i h = refl
+tick-beyond (row ∷ rows) letter (phase ∷ phases) zero h = absurd (omega arith)
+tick-beyond (row ∷ rows) letter (phase ∷ phases) (suc i) h =
+    tick-beyond rows letter phases i (omega arith)
+
+-- After a tick number 18 lets the state by.
+pub tick-fits : (rows : List Row) (letter : ℕ) (phases : List Phase) → phasesFit rows phases ≡ true
+    → phasesFit rows (tick rows letter phases) ≡ true
+unfolding tick phasesFit
+tick-fits [] letter phases h = h
+tick-fits (row ∷ rows) letter [] h = h
+tick-fits (row ∷ rows) letter (phase ∷ phases) h =
+    rw (step-fits row letter phase)
+    (tick-fits rows letter phases (and-right (phaseFits row phase) (phasesFit rows phases) h))
+
+-- A broken row stays broken, whichever it is.
+pub tick-broken : (rows : List Row) (letter : ℕ) (phases : List Phase) → someBroken phases ≡ true
+    → someBroken (tick rows letter phases) ≡ true
+unfolding tick some
+tick-broken [] letter phases h = h
+tick-broken (row ∷ rows) letter [] h = h
+tick-broken (row ∷ rows) letter (phase ∷ phases) h =
+    go (isBroken phase) refl h (tick-broken rows letter phases)
+  where
+    go : (b : Bool) → isBroken phase ≡ b → (b || someBroken phases) ≡ true
+        → (someBroken phases ≡ true → someBroken (tick rows letter phases) ≡ true)
+        → (isBroken (stepRow row letter phase) || someBroken (tick rows letter phases)) ≡ true
+    go true e k ih = rw (step-broken row letter phase e)
+    go false e k ih = rw (ih k) (or-true (isBroken (stepRow row letter phase)))

@@ -1,0 +1,2 @@
+-- Laws of names and of table values.
+pub mod Laws

@@ -1,0 +1,59 @@
+-- `table::valid` meets its contract: the code's tests, in another order, are those of number 17,
+-- since a table value has eight places for rows. Assumes nothing.
+use Prim.Native.Nat.{_≤_}
+use borrow.Author.Needs.{needs}
+use native.Mathlib.Omega.{arith}
+use mathlib.Core.Bool.{Bool, true, false, _&&_, and-comm}
+use mathlib.Core.Path.{_≡_, refl}
+use lib.ListN.{length, take, drop, length-map}
+use lib.Seq.{length-take-le}
+use Rattle.letters.specs.Lists.{every}
+use Rattle.table.specs.Limits.{countFits, mostRows, mostSignals}
+use Rattle.table.specs.Row.{rowFits, rowUnused}
+use Rattle.table.specs.Name.{nameFits, nameUnused, allDistinct}
+use Rattle.table.specs.Valid.{rulesFit, namesFit, rowsOf, tableFits}
+use Rattle.table.specs.declared.Table.{Table}
+use Rattle.table.proofs.Laws.{countFits-bounds}
+use Rattle.table.proofs.valid.Statement.{statement}
+use Rattle.table.proofs.valid.Tie as tie
+
+-- the code's order and that of number 17: c tests the row count, and l how many rows are used
+tests-order : (s c l nf nd nr rf ru : Bool) → (c ≡ true → l ≡ true)
+    → (s && c && nf && nd && nr && rf && ru) ≡ (c && (s && l && rf) && (nf && nd && nr) && ru)
+tests-order true true l nf nd nr rf ru h = rw (h refl, and-comm rf (nf && nd && nr))
+tests-order true false l nf nd nr rf ru h = refl
+tests-order false true l nf nd nr rf ru h = refl
+tests-order false false l nf nd nr rf ru h = refl
+
+-- eight places hold as many used rows as the row count says
+count-used : (t : Table) → length (t .rows) ≡ mostRows → countFits (t .count) mostRows ≡ true
+    → countFits (length (rowsOf t)) mostRows ≡ true
+count-used t e h =
+    let b = countFits-bounds (t .count) mostRows h in
+    let fits : t .count ≤ length (t .rows) = omega arith in
+    rw length-take-le h
+
+-- a table value has eight places for rows: it is so of its fourth field
+eight : (c : tie.Start) → length (c .args .table .rows) ≡ mostRows
+eight c = rw length-map at (c .good .0 .1 .1 .1 .1 .1 .0 .1 .0 .1)
+
+returns : tie.Need-returns
+unfolding tableFits rulesFit namesFit
+returns c =
+    let copied = c .before .before .before .before .before .before .before in
+    let start = copied .before .before .before .before in
+    let t = start .args .table in
+    let s = t .signals in
+    let order = tests-order (countFits s mostSignals) (countFits (t .count) mostRows)
+    (countFits (length (rowsOf t)) mostRows)
+    (every nameFits (take s (t .names))) (allDistinct (take s (t .names)))
+    (every nameUnused (drop s (t .names))) (every (rowFits s) (rowsOf t))
+    (every rowUnused (drop (t .count) (t .rows))) (count-used t (eight start)) in
+    cc
+
+pub valid-spec : {M : Type 1} → statement M
+valid-spec =
+    tie.close (tie.spec
+    (λ c. search needs) (λ c. search needs) (λ c κs. search needs) (λ c κs. search needs)
+    (λ c κs. search needs) (λ c κs. search needs) (λ c κs. search needs)
+    (λ c κs. search needs) (λ c κs. search needs) returns)

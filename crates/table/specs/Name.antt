@@ -1,0 +1,42 @@
+-- A signal's name, kept as its letters and then zeros.
+use Prim.Native.Nat.{ℕ, suc}
+use mathlib.Core.Bool.{Bool, true, false, _&&_, not, cond}
+use mathlib.Core.List.{List, [], _∷_}
+use lib.Dec.{leb, eqb}
+use lib.ListN.{drop}
+use Rattle.letters.specs.Lists.{every, some}
+use Rattle.table.specs.Row.{isZero}
+use Rattle.table.specs.declared.Name.{Name}
+
+-- The letters a-z.
+abbrev pub isLetter : ℕ → Bool
+isLetter b = leb 97 b && leb b 122
+
+-- How many letters stand in front.
+unfoldable pub letterRun : List ℕ → ℕ
+letterRun [] = 0
+letterRun (b ∷ bs) = cond (isLetter b) (suc (letterRun bs)) 0
+
+-- "A name has 1 to 8 letters a-z"; unused name letters are 0. There are eight places.
+unfoldable pub nameFits : Name → Bool
+nameFits name =
+    leb 1 (letterRun (name .letters))
+    && every isZero (drop (letterRun (name .letters)) (name .letters))
+
+-- "Unused names .. of a table value are 0."
+unfoldable pub nameUnused : Name → Bool
+nameUnused name = every isZero (name .letters)
+
+unfoldable pub sameBytes : List ℕ → List ℕ → Bool
+sameBytes [] [] = true
+sameBytes [] (y ∷ ys) = false
+sameBytes (x ∷ xs) [] = false
+sameBytes (x ∷ xs) (y ∷ ys) = eqb x y && sameBytes xs ys
+
+abbrev pub sameName : Name → Name → Bool
+sameName a b = sameBytes (a .letters) (b .letters)
+
+-- No name stands twice.
+unfoldable pub allDistinct : List Name → Bool
+allDistinct [] = true
+allDistinct (name ∷ names) = not (some (sameName name) names) && allDistinct names

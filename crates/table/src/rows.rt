@@ -1,0 +1,100 @@
+// Rows that an accepted file can have. specs/Row.antt says what is right.
+use crate::CONDITIONS;
+use crate::MOST_ROWS;
+use crate::MOST_TICKS;
+use crate::Row;
+ghost use mathlib.Core.Path.{_≡_};
+ghost use lib.ListN.{take, drop};
+ghost use Rattle.letters.specs.Letter.{setFits};
+ghost use Rattle.letters.specs.Lists.{every};
+ghost use Rattle.table.specs.Row.{boundsFit, rowFits, isZero, rowUnused};
+
+// Whether a least and a most are those of a file.
+pub fn bounds_fit(least: u8, most: u8) -> bool
+    ensures { λ r. ⌜ r ≡ boundsFit least most ⌝ }
+{
+    (least <= most) & (most <= MOST_TICKS)
+}
+
+// Whether each set has only letters that so many signals have.
+fn sets_fit(signals: u8, sets: [u64; CONDITIONS]) -> bool
+    ensures { λ r. ⌜ r ≡ every (setFits signals) sets ⌝ }
+{
+    let mut i: usize = 0;
+    while i < CONDITIONS {
+        if !letters::set_fits(signals, sets[i]) {
+            return false;
+        }
+        i += 1;
+    }
+    true
+}
+
+// Whether a row is one that a file with so many signals can have.
+pub fn row_fits(signals: u8, row: Row) -> bool
+    ensures { λ r. ⌜ r ≡ rowFits signals row ⌝ }
+{
+    let sets = row.sets;
+    bounds_fit(row.tmin, row.tmax)
+        & bounds_fit(row.lmin, row.lmax)
+        & bounds_fit(row.amin, row.amax)
+        & sets_fit(signals, sets)
+}
+
+fn sets_unused(sets: [u64; CONDITIONS]) -> bool
+    ensures { λ r. ⌜ r ≡ every isZero sets ⌝ }
+{
+    let mut i: usize = 0;
+    while i < CONDITIONS {
+        if sets[i] != 0 {
+            return false;
+        }
+        i += 1;
+    }
+    true
+}
+
+// Whether everything in a row is 0.
+pub fn row_unused(row: Row) -> bool
+    ensures { λ r. ⌜ r ≡ rowUnused row ⌝ }
+{
+    let sets = row.sets;
+    (row.tmin == 0)
+        & (row.tmax == 0)
+        & (row.lmin == 0)
+        & (row.lmax == 0)
+        & (row.amin == 0)
+        & (row.amax == 0)
+        & sets_unused(sets)
+}
+
+// Whether the first n rows are such as a file with so many signals can have.
+pub fn used_fit(signals: u8, rows: [Row; MOST_ROWS], n: usize) -> bool
+    ensures { λ r. ⌜ r ≡ every (rowFits signals) (take n rows) ⌝ }
+{
+    let mut i: usize = 0;
+    while i < n {
+        if MOST_ROWS <= i {
+            return true;
+        }
+        if !row_fits(signals, rows[i]) {
+            return false;
+        }
+        i += 1;
+    }
+    true
+}
+
+// Whether the rows from place n on are 0.
+pub fn rest_unused(rows: [Row; MOST_ROWS], n: usize) -> bool
+    ensures { λ r. ⌜ r ≡ every rowUnused (drop n rows) ⌝ }
+{
+    let mut i = n;
+    while i < MOST_ROWS {
+        if !row_unused(rows[i]) {
+            return false;
+        }
+        i += 1;
+    }
+    true
+}

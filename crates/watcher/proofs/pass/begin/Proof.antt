@@ -1,0 +1,19 @@
+-- `watcher::pass::begin` meets its contract, by what the functions below ensure. Assumes nothing.
+use Rattle.watcher.specs.Pass.{begun}
+use borrow.Author.Needs.{needs}
+use Rattle.watcher.proofs.pass.begin.Statement.{statement}
+use Rattle.watcher.proofs.pass.begin.Tie as tie
+
+returns : tie.Need-returns
+unfolding begun
+returns c = rw (
+  c .rest-waiting .ensures,
+  c .before .count-fits2 .ensures,
+  c .before .before
+      .count-fits .ensures,
+)
+
+pub begin-spec : {M : Type 1} → statement M
+begin-spec =
+    tie.close (tie.spec
+    (λ c κs. search needs) (λ c κs. search needs) (λ c κs. search needs) returns)

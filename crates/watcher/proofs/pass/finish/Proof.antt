@@ -1,0 +1,55 @@
+-- `watcher::pass::finish` meets its contract, by the tests on the way to each return. Assumes
+-- nothing.
+use borrow.Author.Tests.{not-true, not-false}
+use mathlib.Core.Bool.{true, false}
+use mathlib.Core.Path.{_≡_, sym, _∙_}
+use Rattle.watcher.specs.Answer.{answered}
+use Rattle.watcher.specs.Pass.{finished}
+use borrow.Author.Needs.{needs}
+use Rattle.watcher.proofs.pass.finish.Statement.{statement}
+use Rattle.watcher.proofs.pass.finish.Tie as tie
+
+-- past the tests for 17 and 18
+rules-fit : (c : tie.Else1) → c .before .before .before .before .args .pass .rules ≡ true
+rules-fit c = not-false _ (c .if1 .left)
+
+phases-fit : (c : tie.Else2) → c .before .before .before .before .before .before .args .pass .phases
+    ≡ true
+phases-fit c = not-false _ (c .if2 .left)
+
+returns : tie.Need-returns
+unfolding finished answered
+returns c =
+    let fails : c .before .before .before .before .before .args .pass .rules ≡ false =
+    not-true _ (c .before .if1 .taken) in
+    rw fails (c .refused .ensures)
+
+returns-2 : tie.Need-returns-2
+unfolding finished answered
+returns-2 c =
+    let past = c .before .before .before in
+    let fails : past .before .before .before .before .args .pass .phases ≡ false =
+    not-true _ (c .before .if2 .taken) in
+    rw (rules-fit past, fails) (c .refused2 .ensures)
+
+returns-3 : tie.Need-returns-3
+unfolding finished answered
+returns-3 c =
+    let past = c .before .before in
+    let told = past .before .before .before .before .letter-fits in
+    let fails = sym (told .ensures) ∙ not-true _ (c .before .if3 .taken) in
+    rw (rules-fit (past .before .before), phases-fit past, fails) (c .refused3 .ensures)
+
+returns-4 : tie.Need-returns-4
+unfolding finished answered
+returns-4 c =
+    let past = c .before in
+    let told = past .before .before .before .before .letter-fits in
+    let passes = sym (told .ensures) ∙ not-false _ (c .if3 .left) in
+    rw (rules-fit (past .before .before), phases-fit past, passes)
+
+pub finish-spec : {M : Type 1} → statement M
+finish-spec =
+    tie.close (tie.spec
+    (λ c κs. search needs) (λ c κs. search needs) returns (λ c κs. search needs) returns-2
+    (λ c κs. search needs) returns-3 returns-4)

@@ -1,0 +1,31 @@
+-- `watcher::pass::take_row` meets its contract: beyond the limit nothing changes, and within it the
+-- row is judged and moved on by the functions below. Assumes nothing.
+use borrow.Author.Tests.{lt-ltb, le-ltb}
+use Rattle.watcher.specs.Pass.{rowTaken}
+use borrow.Author.Needs.{needs}
+use Rattle.watcher.proofs.pass.take_row.Statement.{statement}
+use Rattle.table.specs.Limits.{mostRows}
+use Rattle.watcher.proofs.pass.take_row.Tie as tie
+
+returns : tie.Need-returns
+unfolding rowTaken
+returns c = rw (le-ltb _ mostRows (c .if1 .taken))
+
+returns-2 : tie.Need-returns-2
+unfolding rowTaken
+returns-2 c =
+    let low = lt-ltb _ mostRows (c .before .before .before .before .before .before .before .if1
+    .left) in
+    rw (
+      low,
+      c .before .phase-fits .ensures,
+      c .before .before .before .row-fits .ensures,
+      c .before
+          .before .before .before .step-row .ensures,
+    )
+
+pub take-row-spec : {M : Type 1} → statement M
+take-row-spec =
+    tie.close (tie.spec
+    returns (λ c. search needs) (λ c. search needs) (λ c κs. search needs) (λ c. search needs)
+    (λ c. search needs) (λ c κs. search needs) (λ c κs. search needs) returns-2)

@@ -1,0 +1,34 @@
+-- `watcher::tick_table` meets its contract: a pass over the rows of a table that number 17 lets by.
+-- Assumes nothing.
+use borrow.Author.Tests.{not-true, not-false}
+use mathlib.Core.Path.{_≡_, sym, _∙_}
+use lib.ListN.{length, length-map}
+use Rattle.watcher.proofs.Tables.{table-answer, table-refused}
+use borrow.Author.Needs.{needs}
+use Rattle.watcher.proofs.tick_table.Statement.{statement}
+use Rattle.table.specs.Limits.{mostRows}
+use Rattle.watcher.proofs.tick_table.Tie as tie
+
+rows-eight : (c : tie.Start) → length (c .args .table .rows) ≡ mostRows
+rows-eight c = rw length-map at (c .good .0 .1 .1 .1 .1 .1 .0 .1 .0 .1)
+
+slots-eight : (c : tie.Start) → length (c .args .watch .slots) ≡ mostRows
+slots-eight c = rw length-map at (c .good .1 .0 .1 .1 .0 .1 .0 .1)
+
+returns : tie.Need-returns
+returns c = c .refused .ensures ∙ table-refused _ _ _
+    (sym (c .before .before .valid .ensures) ∙ not-true _ (c .before .if1 .taken))
+
+returns-2 : tie.Need-returns-2
+returns-2 c =
+    let start = c .before .before .before .before .before .before .before in
+    c .finish .ensures ∙ rw (c .before .over .ensures, c .before .before .begin .ensures)
+    (table-answer _ _ _ (rows-eight start) (slots-eight start)
+    (sym (c .before .before .before .before .before .before .valid .ensures)
+    ∙ not-false _ (c .before .before .before .before .before .if1 .left)))
+
+pub tick-table-spec : {M : Type 1} → statement M
+tick-table-spec =
+    tie.close (tie.spec
+    (λ c κs. search needs) (λ c κs. search needs) returns (λ c. search needs)
+    (λ c κs. search needs) (λ c κs. search needs) (λ c κs. search needs) returns-2)

@@ -1,0 +1,116 @@
+// The watcher: it moves all rows of a table on by one tick. specs/Watch.antt and specs/Answer.antt
+// say what is right.
+//
+// A tick is one pass over the rows: each is tested for number 17, its phase for number 18, and
+// moved on. The pass is a value, so that rows that are lent (`tick_rows`) and rows of a table value
+// (`tick_table`) go the same way.
+pub mod pass;
+
+use step::Phase;
+use table::MOST_ROWS;
+use table::Outcome;
+use table::Row;
+use table::Table;
+ghost use mathlib.Core.Path.{_≡_};
+ghost use Rattle.watcher.specs.Watch.{startWatch};
+ghost use Rattle.watcher.specs.Answer.{tickAnswer, tableTick, tablePlay};
+
+// A row's place in the record.
+pub struct Slot {
+    pub phase: Phase,
+}
+
+// The watcher's state: the phase of each row, in file order. An unused row is waiting.
+pub struct Watch {
+    pub slots: [Slot; MOST_ROWS],
+}
+
+// What a tick gives: whether it was taken, and the state after it, which is the old one if it was
+// refused.
+pub struct Ticked {
+    pub outcome: Outcome,
+    pub watch: Watch,
+}
+
+// The state before the first tick: all rows wait.
+pub fn start() -> Watch
+    ensures { λ r. ⌜ r ≡ startWatch ⌝ }
+{
+    let slot = Slot {
+        phase: Phase::Waiting,
+    };
+    Watch {
+        slots: [slot; MOST_ROWS],
+    }
+}
+
+// One tick of the rows that are lent, in file order, with the state by value.
+// Refused with 17, 18 or 19, in this order; the state is then the one that was passed.
+pub fn tick_rows(signals: u8, rows: &[Row], watch: Watch, letter: u8) -> Ticked
+    ensures { λ r. ⌜ r ≡ tickAnswer signals (now (rows .entry)) watch letter ⌝ }
+{
+    let mut pass = pass::begin(signals, rows.len(), watch, letter);
+    let mut i: usize = 0;
+    while i < rows.len() {
+        let row = rows[i];
+        pass = pass::take_row(pass, i, row);
+        i += 1;
+    }
+    pass::finish(pass, watch)
+}
+
+// One tick on the machine: rows and state are lent, and the state is moved on. A refusal leaves it
+// as it is.
+pub fn tick(signals: u8, rows: &[Row], watch: &mut Watch, letter: u8) -> Outcome
+    ensures { λ r. ⌜ r
+        ≡ tickAnswer signals (now (rows .entry)) (now (watch .entry)) letter .outcome ⌝ }
+    ensures { λ _. ⌜ now (watch .exit)
+        ≡ tickAnswer signals (now (rows .entry)) (now (watch .entry)) letter .watch ⌝ }
+{
+    let ticked = tick_rows(signals, rows, *watch, letter);
+    *watch = ticked.watch;
+    ticked.outcome
+}
+
+// One tick of a table value. Refused with 17, 18 or 19, in this order; the state is then the one
+// that was passed.
+pub fn tick_table(table: Table, watch: Watch, letter: u8) -> Ticked
+    ensures { λ r. ⌜ r ≡ tableTick table watch letter ⌝ }
+{
+    if !table::valid(table) {
+        return pass::refused(17, watch);
+    }
+    let rows = table.rows;
+    let count = table.count as usize;
+    let begun = pass::begin(table.signals, count, watch, letter);
+    let passed = pass::over(rows, count, begun);
+    pass::finish(passed, watch)
+}
+
+// A trace of ticks of a table value. Refused with 17, 18, or 19 for any of its letters, in this
+// order; the state is then the one that was passed.
+pub fn play(table: Table, watch: Watch, trace: &[u8]) -> Ticked
+    ensures { λ r. ⌜ r ≡ tablePlay table watch (now (trace .entry)) ⌝ }
+{
+    // Letter 0 is never too large, so this tick only tests 17 and 18.
+    let tested = tick_table(table, watch, 0);
+    let outcome = tested.outcome;
+    let Outcome::Accepted = outcome else {
+        return tested;
+    };
+    let mut last = watch;
+    let mut i: usize = 0;
+    while i < trace.len() {
+        let ticked = tick_table(table, last, trace[i]);
+        let outcome = ticked.outcome;
+        let Outcome::Accepted = outcome else {
+            return pass::refused(19, watch);
+        };
+        last = ticked.watch;
+        i += 1;
+    }
+    Ticked {
+        outcome: Outcome::Accepted,
+        watch: last,
+    }
+}

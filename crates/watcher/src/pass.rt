@@ -1,0 +1,126 @@
+// One pass over the rows of a table: what it has found so far, by value. specs/Pass.antt follows
+// this code; what is right is said in specs/Answer.antt.
+use crate::Slot;
+use crate::Ticked;
+use crate::Watch;
+use table::MOST_ROWS;
+use table::MOST_SIGNALS;
+use table::Outcome;
+use table::Refusal;
+use table::Row;
+ghost use mathlib.Core.Path.{_≡_};
+ghost use lib.ListN.{take, drop};
+ghost use Rattle.letters.specs.Lists.{every};
+ghost use Rattle.step.specs.Fits.{isWaiting};
+ghost use Rattle.watcher.specs.Watch.{phasesOf};
+ghost use Rattle.watcher.specs.Answer.{refusedWith};
+ghost use Rattle.watcher.specs.Pass.{begun, rowTaken, passOver, finished};
+
+// Whether the rows (17) and the phases (18) passed so far, and the state with the rows so far moved
+// on.
+pub struct Pass {
+    pub signals: u8,
+    pub letter: u8,
+    pub rules: bool,
+    pub phases: bool,
+    pub watch: Watch,
+}
+
+// A refusal with a number and no line: the state is the one that was passed.
+pub fn refused(number: u8, watch: Watch) -> Ticked
+    ensures { λ r. ⌜ r ≡ refusedWith number watch ⌝ }
+{
+    Ticked {
+        outcome: Outcome::Refused(Refusal { number, line: 0 }),
+        watch,
+    }
+}
+
+// Whether all rows from place n on wait.
+fn rest_waiting(watch: Watch, n: usize) -> bool
+    ensures { λ r. ⌜ r ≡ every isWaiting (drop n (phasesOf watch)) ⌝ }
+{
+    let mut i = n;
+    while i < MOST_ROWS {
+        let slot = watch.slots[i];
+        let phase = slot.phase;
+        if !step::is_waiting(phase) {
+            return false;
+        }
+        i += 1;
+    }
+    true
+}
+
+// Before the first of n rows: what the counts and the unused rows say.
+pub fn begin(signals: u8, n: usize, watch: Watch, letter: u8) -> Pass
+    ensures { λ r. ⌜ r ≡ begun signals n watch letter ⌝ }
+{
+    Pass {
+        signals,
+        letter,
+        rules: table::count_fits(signals as usize, MOST_SIGNALS) & table::count_fits(n, MOST_ROWS),
+        phases: rest_waiting(watch, n),
+        watch,
+    }
+}
+
+// Row i is tested and moved on. A row beyond the limit is passed by: `begin` has turned it down.
+pub fn take_row(pass: Pass, i: usize, row: Row) -> Pass
+    ensures { λ r. ⌜ r ≡ rowTaken pass i row ⌝ }
+{
+    if MOST_ROWS <= i {
+        return pass;
+    }
+    let watch = pass.watch;
+    let slot = watch.slots[i];
+    let phase = slot.phase;
+    let stepped = step::step_row(row, pass.letter, phase);
+    let next = stepped.phase;
+    let mut moved = watch;
+    moved.slots[i] = Slot { phase: next };
+    Pass {
+        signals: pass.signals,
+        letter: pass.letter,
+        rules: pass.rules & table::rows::row_fits(pass.signals, row),
+        phases: pass.phases & step::phase_fits(row, phase),
+        watch: moved,
+    }
+}
+
+// The first n rows of a table value.
+pub fn over(rows: [Row; MOST_ROWS], n: usize, begun: Pass) -> Pass
+    ensures { λ r. ⌜ r ≡ passOver (take n rows) 0 begun ⌝ }
+{
+    let mut pass = begun;
+    let mut i: usize = 0;
+    while i < n {
+        if MOST_ROWS <= i {
+            return pass;
+        }
+        pass = take_row(pass, i, rows[i]);
+        i += 1;
+    }
+    pass
+}
+
+// After the last row: the first number that fits, or the state moved on.
+pub fn finish(pass: Pass, watch: Watch) -> Ticked
+    ensures { λ r. ⌜ r ≡ finished pass watch ⌝ }
+{
+    let after = pass.watch;
+    let letter_fits = letters::letter_fits(pass.signals, pass.letter);
+    if !pass.rules {
+        return refused(17, watch);
+    }
+    if !pass.phases {
+        return refused(18, watch);
+    }
+    if !letter_fits {
+        return refused(19, watch);
+    }
+    Ticked {
+        outcome: Outcome::Accepted,
+        watch: after,
+    }
+}
