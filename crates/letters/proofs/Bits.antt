@@ -25,16 +25,16 @@ pub bit-high : (x n k : ℕ) → x < 2 ^ n → n ≤ k → bitAt x k ≡ false
 unfolding bitAt
 bit-high x n k low h = rw (div-eq-of-lt (lt-of-lt-of-le low (pow-mono {i = n} {j = k} h)))
 
-bit-lt : (b : Bool) → bit b < 2
+pub bit-lt : (b : Bool) → bit b < 2
 bit-lt true = omega arith
 bit-lt false = omega arith
 
-bit-eqb : (x : ℕ) → x < 2 → bit (eqb x 1) ≡ x
+pub bit-eqb : (x : ℕ) → x < 2 → bit (eqb x 1) ≡ x
 bit-eqb zero p = refl
 bit-eqb (suc zero) p = refl
 bit-eqb (suc (suc x)) p = absurd (omega arith)
 
-eqb-bit : (b : Bool) → eqb (bit b) 1 ≡ b
+pub eqb-bit : (b : Bool) → eqb (bit b) 1 ≡ b
 eqb-bit true = refl
 eqb-bit false = refl
 

@@ -3,3 +3,4 @@
 -- `native.Mathlib.Nat` (numbers).
 pub mod Lists
 pub mod Bits
+pub mod Sets

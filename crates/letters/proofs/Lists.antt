@@ -1,14 +1,16 @@
 -- Tests over lists: what a loop that counts from the front needs, and what passing says of each
 -- element. Assumes nothing.
 use Prim.Native.Nat.{ℕ, zero, suc, _+_, _<_, _≤_}
+use borrow.Author.Tests.{eqb-true, eq-eqb, ne-eqb}
 use native.Mathlib.Numerals.{add-one}
 use native.Mathlib.Omega.{arith}
 use mathlib.Core.Bool.{Bool, true, false, _&&_, _||_, and-assoc}
 use mathlib.Core.List.{List, [], _∷_, _++_}
 use mathlib.Core.Path.{_≡_, refl, sym}
+use lib.Dec.{eqb}
 use lib.ListN.{length, getD, take, drop, length-take, drop-of-length-le}
 use lib.Seq.{drop-cons, getD-take}
-use Rattle.letters.specs.Lists.{every, some}
+use Rattle.letters.specs.Lists.{every, some, sameBytes}
 
 -- Both halves of a test that passed.
 pub and-left : (a b : Bool) → (a && b) ≡ true → a ≡ true
@@ -98,3 +100,42 @@ and-four a b c d h =
     let abc = and-left (a && b && c) d h in
     let ab = and-left (a && b) c abc in
     (and-left a b ab, and-right a b ab, and-right (a && b) c abc, and-right (a && b && c) d h)
+
+-- Two lists of bytes, place by place.
+module _ (xs ys : List ℕ) (i : ℕ) where
+  pub sameBytes-next : i < length xs → i < length ys → getD xs i 0 ≡ getD ys i 0
+      → sameBytes (drop i xs) (drop i ys) ≡ sameBytes (drop (i + 1) xs) (drop (i + 1) ys)
+  unfolding sameBytes
+  sameBytes-next h k e = rw (drop-cons xs i 0 h, drop-cons ys i 0 k, eq-eqb _ _ e, add-one)
+
+  pub sameBytes-stop : i < length xs → i < length ys → (getD xs i 0 ≡ getD ys i 0 → ⊥)
+      → sameBytes (drop i xs) (drop i ys) ≡ false
+  unfolding sameBytes
+  sameBytes-stop h k e = rw (drop-cons xs i 0 h, drop-cons ys i 0 k, ne-eqb _ _ e)
+
+  pub sameBytes-end : length xs ≤ i → length ys ≤ i → sameBytes (drop i xs) (drop i ys) ≡ true
+  unfolding sameBytes
+  sameBytes-end h k = rw (drop-of-length-le xs h, drop-of-length-le ys k)
+
+-- The test passes at equal lists, and at no others.
+pub sameBytes-refl : (xs : List ℕ) → sameBytes xs xs ≡ true
+unfolding sameBytes
+sameBytes-refl [] = refl
+sameBytes-refl (x ∷ xs) = rw (eq-eqb x x refl, sameBytes-refl xs)
+
+pub sameBytes-true : (xs ys : List ℕ) → sameBytes xs ys ≡ true → xs ≡ ys
+unfolding sameBytes
+sameBytes-true [] [] h = refl
+sameBytes-true [] (y ∷ ys) h = absurd (let z : _≡_ {A = ℕ} 0 1 = cc in omega arith)
+sameBytes-true (x ∷ xs) [] h = absurd (let z : _≡_ {A = ℕ} 0 1 = cc in omega arith)
+sameBytes-true (x ∷ xs) (y ∷ ys) h =
+    let head = eqb-true x y (and-left (eqb x y) (sameBytes xs ys) h) in
+    let tail = sameBytes-true xs ys (and-right (eqb x y) (sameBytes xs ys) h) in
+    cc
+
+pub sameBytes-false : (xs ys : List ℕ) → (xs ≡ ys → ⊥) → sameBytes xs ys ≡ false
+sameBytes-false xs ys other = go (sameBytes xs ys) (sameBytes-true xs ys)
+  where
+    go : (t : Bool) → (t ≡ true → xs ≡ ys) → t ≡ false
+    go true same = absurd (other (same refl))
+    go false same = refl

@@ -1,5 +1,5 @@
 -- Letters and sets of letters.
-use Prim.Native.Nat.{ℕ, zero, suc, _+_, _*_, _/_, _%_, _^_}
+use Prim.Native.Nat.{ℕ, zero, suc, _+_, _*_, _/_, _%_, _^_, min}
 use mathlib.Core.Bool.{Bool, true, false}
 use lib.Dec.{eqb, ltb}
 
@@ -27,6 +27,10 @@ inSet set letter = bitAt set letter
 -- No letter from 2^s on is in the set.
 abbrev pub setFits : ℕ → ℕ → Bool
 setFits s set = ltb set (2 ^ letters s)
+
+-- How many letters a set of 64 bits can hold: with up to six signals all of them.
+abbrev pub width : ℕ → ℕ
+width s = min 64 (letters s)
 
 -- The set of the letters below n at which a test holds.
 abbrev pub bit : Bool → ℕ

@@ -1,7 +1,8 @@
 // Letters, and sets of letters as numbers: letter l is in the set where bit l is 1.
 // specs/Letter.antt says what is right.
 ghost use mathlib.Core.Path.{_≡_};
-ghost use Rattle.letters.specs.Letter.{inSet, letterFits, setFits};
+ghost use mathlib.Core.Bool.{true, not};
+ghost use Rattle.letters.specs.Letter.{signalOn, inSet, letterFits, setFits, width, setOf};
 
 // Whether a letter is in a set. No letter from 64 on is in one.
 pub fn contains(set: u64, letter: u8) -> bool
@@ -34,4 +35,47 @@ pub fn set_fits(signals: u8, set: u64) -> bool
     } else {
         true
     }
+}
+
+// How many letters so many signals have, as far as a set can hold them.
+fn width_of(signals: u8) -> u8
+    ensures { λ r. ⌜ r ≡ width signals ⌝ }
+{
+    if signals < 6 { 1u8 << signals } else { 64 }
+}
+
+// The set of all letters that so many signals have.
+pub fn all(signals: u8) -> u64
+    ensures { λ r. ⌜ r ≡ setOf (width signals) (λ _. true) ⌝ }
+{
+    let n = width_of(signals);
+    if n < 64 {
+        (1u64 << n) - 1
+    } else {
+        18446744073709551615
+    }
+}
+
+// The set of those letters at which signal k is on, counted from 0.
+pub fn signal_set(signals: u8, k: u8) -> u64
+    ensures { λ r. ⌜ r ≡ setOf (width signals) (λ letter. signalOn letter k) ⌝ }
+{
+    let n = width_of(signals);
+    let mut set: u64 = 0;
+    let mut l: u8 = 0;
+    while l < n {
+        if contains(l as u64, k) {
+            set += 1u64 << l;
+        }
+        l += 1;
+    }
+    set
+}
+
+// The set of those letters that are not in a set.
+pub fn others(signals: u8, set: u64) -> u64
+    ensures { λ r. ⌜ r ≡ setOf (width signals) (λ letter. not (inSet set letter)) ⌝ }
+{
+    let full = all(signals);
+    full - (full & set)
 }

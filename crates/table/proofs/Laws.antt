@@ -1,7 +1,7 @@
 -- Laws of names and of table values. A loop's turn at place i: `-next` where it goes on, `-stop`
 -- where it settles the answer, `-end` past the last place. Assumes nothing.
 use Prim.Native.Nat.{ℕ, _+_, _<_, _≤_}
-use borrow.Author.Tests.{leb-true, eq-eqb, ne-eqb}
+use borrow.Author.Tests.{leb-true}
 use native.Mathlib.Numerals.{add-one}
 use mathlib.Core.Bool.{true, false, _&&_, not}
 use mathlib.Core.List.{List}
@@ -14,7 +14,7 @@ use Rattle.letters.specs.Lists.{every, some}
 use Rattle.letters.proofs.Lists.{and-left, and-right, and-four, lt-length-take}
 use Rattle.table.specs.Limits.{countFits, mostRows, mostSignals}
 use Rattle.table.specs.Row.{boundsFit, rowFits, rowUnused}
-use Rattle.table.specs.Name.{isLetter, letterRun, sameBytes, sameName, allDistinct}
+use Rattle.table.specs.Name.{isLetter, letterRun, sameName, allDistinct}
 use Rattle.table.specs.Valid.{rulesFit, namesFit, rowsOf, tableFits}
 use Rattle.table.specs.declared.Name.{Name}
 use Rattle.table.specs.declared.Row.{Row}
@@ -34,22 +34,6 @@ module _ (xs : List ℕ) (i : ℕ) where
   pub letterRun-end : length xs ≤ i → letterRun (drop i xs) ≡ 0
   unfolding letterRun
   letterRun-end h = rw (drop-of-length-le xs h)
-
--- Two names, byte by byte.
-module _ (xs ys : List ℕ) (i : ℕ) where
-  pub sameBytes-next : i < length xs → i < length ys → getD xs i 0 ≡ getD ys i 0
-      → sameBytes (drop i xs) (drop i ys) ≡ sameBytes (drop (i + 1) xs) (drop (i + 1) ys)
-  unfolding sameBytes
-  sameBytes-next h k e = rw (drop-cons xs i 0 h, drop-cons ys i 0 k, eq-eqb _ _ e, add-one)
-
-  pub sameBytes-stop : i < length xs → i < length ys → (getD xs i 0 ≡ getD ys i 0 → ⊥)
-      → sameBytes (drop i xs) (drop i ys) ≡ false
-  unfolding sameBytes
-  sameBytes-stop h k e = rw (drop-cons xs i 0 h, drop-cons ys i 0 k, ne-eqb _ _ e)
-
-  pub sameBytes-end : length xs ≤ i → length ys ≤ i → sameBytes (drop i xs) (drop i ys) ≡ true
-  unfolding sameBytes
-  sameBytes-end h k = rw (drop-of-length-le xs h, drop-of-length-le ys k)
 
 -- No name twice among the first n.
 module _ (n : ℕ) (xs : List Name) (i : ℕ) (d : Name) (h : i < n) (k : i < length xs) where

@@ -4,7 +4,7 @@ use mathlib.Core.Bool.{Bool, true, false, _&&_, not, cond}
 use mathlib.Core.List.{List, [], _∷_}
 use lib.Dec.{leb, eqb}
 use lib.ListN.{drop}
-use Rattle.letters.specs.Lists.{every, some}
+use Rattle.letters.specs.Lists.{every, some, sameBytes}
 use Rattle.table.specs.Row.{isZero}
 use Rattle.table.specs.declared.Name.{Name}
 
@@ -26,12 +26,6 @@ nameFits name =
 -- "Unused names .. of a table value are 0."
 unfoldable pub nameUnused : Name → Bool
 nameUnused name = every isZero (name .letters)
-
-unfoldable pub sameBytes : List ℕ → List ℕ → Bool
-sameBytes [] [] = true
-sameBytes [] (y ∷ ys) = false
-sameBytes (x ∷ xs) [] = false
-sameBytes (x ∷ xs) (y ∷ ys) = eqb x y && sameBytes xs ys
 
 abbrev pub sameName : Name → Name → Bool
 sameName a b = sameBytes (a .letters) (b .letters)

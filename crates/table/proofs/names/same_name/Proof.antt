@@ -5,8 +5,9 @@ use borrow.Author.Needs.{needs}
 use native.Mathlib.Omega.{arith}
 use mathlib.Core.Path.{_≡_, sym, _∙_}
 use lib.ListN.{length, drop}
-use Rattle.table.specs.Name.{sameName, sameBytes}
-use Rattle.table.proofs.Laws.{sameBytes-next, sameBytes-stop, sameBytes-end}
+use Rattle.table.specs.Name.{sameName}
+use Rattle.letters.specs.Lists.{sameBytes}
+use Rattle.letters.proofs.Lists.{sameBytes-next, sameBytes-stop, sameBytes-end}
 use Rattle.table.proofs.names.same_name.Statement.{statement}
 use Rattle.table.proofs.names.same_name.Tie as tie
 

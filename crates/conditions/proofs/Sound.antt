@@ -1,0 +1,224 @@
+-- What is read is written by a condition with that meaning: one law for each part of the reading.
+-- Assumes nothing.
+use Prim.Native.Nat.{ℕ, zero, suc, _+_, _≤_, _<_}
+use native.Mathlib.Omega.{arith}
+use borrow.Author.Tests.{ltb-false, eqb-false}
+use mathlib.Core.Bool.{Bool, true, false, _||_, cond}
+use mathlib.Core.List.{List, _++_, append-assoc}
+use mathlib.Core.Path.{_≡_, refl, sym, _∙_}
+use lib.Bits.{bitAnd, bitOr}
+use lib.Dec.{eqb, ltb}
+use lib.ListN.{length, take, drop, length-drop, take-append-drop}
+use lib.Seq.{drop-drop, length-take-le}
+use Rattle.letters.specs.Letter.{setOf}
+use Rattle.letters.proofs.Sets.{setOf-or, setOf-and, setOf-others, setOf-false}
+use Rattle.table.specs.Name.{letterRun}
+use Rattle.table.specs.declared.Name.{Name}
+use Rattle.conditions.specs.Bytes.{'|', '&', '!', '0', '1', opening, closing}
+use Rattle.conditions.specs.Condition.{Kind, choice, term, factor, Cond, text}
+use Rattle.conditions.specs.Condition.{nameOf, place, holdsAt, unknown}
+use Rattle.conditions.specs.Condition.Cond.{oneTerm, or, oneFactor, and, negated, named}
+use Rattle.conditions.specs.Condition.Cond.{never, always, grouped}
+use Rattle.conditions.specs.Reading.{isAt, joined, others, closed, followed, signal, nameAt}
+use Rattle.conditions.specs.Reading.{digitAt, reads}
+use Rattle.conditions.specs.declared.Read.{Read}
+use Rattle.conditions.specs.declared.Read.the-variants.{Set, Nothing}
+use Rattle.conditions.proofs.Bytes.{isAt-cons, isAt-lt}
+use Rattle.conditions.proofs.Names.{letterRun-le, letterRun-every}
+
+-- The bytes from one place to another are written by a condition with that set and flag.
+pub record Wrote (names : List Name) (n : ℕ) (s : List ℕ) (k : Kind) (at v : ℕ) (u : Bool)
+    (next : ℕ) : Type 0 where
+  pub tree : Cond k
+  pub starts : at < next
+  pub ends : next ≤ length s
+  pub bytes : drop at s ≡ text tree ++ drop next s
+  pub letters : setOf n (holdsAt names tree) ≡ v
+  pub flag : unknown names tree ≡ u
+
+module _ (names : List Name) (n : ℕ) (s : List ℕ) where
+  abbrev pub Sound : Kind → ℕ → Read → Type 0
+  Sound k at (Set v u next) = Wrote names n s k at v u next
+  Sound k at Nothing = Unit {0}
+
+  -- A part, and where the byte b follows it, more of the same kind.
+  followed-sound : {k part : Kind} (b : ℕ) (f : ℕ → ℕ → ℕ) (at : ℕ) (r : Read) (rest : ℕ → Read)
+      → ((v : ℕ) (u : Bool) (next : ℕ) → Wrote names n s part at v u next
+      → Wrote names n s k at v u next)
+      → ((v : ℕ) (u : Bool) (next : ℕ) (q : Read) → isAt s next b ≡ true
+      → Wrote names n s part at v u next → Sound k (next + 1) q → Sound k at (joined f v u q))
+      → Sound part at r → ((m : ℕ) → Sound k m (rest m)) → Sound k at (followed s b rest f r)
+  followed-sound b f at Nothing rest one more h g = tt
+  followed-sound {k} b f at (Set v u next) rest one more h g = go (isAt s next b) refl
+    where
+      go : (x : Bool) → isAt s next b ≡ x
+          → Sound k at (cond x (joined f v u (rest (next + 1))) (Set v u next))
+      go true e = more v u next (rest (next + 1)) e h (g (next + 1))
+      go false e = one v u next h
+
+  one-term : (at v : ℕ) (u : Bool) (next : ℕ) → Wrote names n s term at v u next
+      → Wrote names n s choice at v u next
+  unfolding text holdsAt unknown
+  one-term at v u next h = record {
+    tree = oneTerm (h .tree);
+    starts = h .starts;
+    ends = h .ends;
+    bytes = h .bytes;
+    letters = h .letters;
+    flag = h .flag;
+  }
+
+  more-terms : (at v : ℕ) (u : Bool) (next : ℕ) (q : Read) → isAt s next '|' ≡ true
+      → Wrote names n s term at v u next → Sound choice (next + 1) q
+      → Sound choice at (joined bitOr v u q)
+  unfolding text holdsAt unknown
+  more-terms at v u next Nothing e h g = tt
+  more-terms at v u next (Set w t last) e h g = record {
+    tree = or (h .tree) (g .tree);
+    starts = omega (arith, h .starts, g .starts);
+    ends = g .ends;
+    bytes = rw append-assoc (h .bytes ∙ rw (isAt-cons s next '|' e, g .bytes));
+    letters = sym (setOf-or n (holdsAt names (h .tree)) (holdsAt names (g .tree)))
+        ∙ rw (h .letters, g .letters);
+    flag = rw (h .flag, g .flag);
+  }
+
+  one-factor : (at v : ℕ) (u : Bool) (next : ℕ) → Wrote names n s factor at v u next
+      → Wrote names n s term at v u next
+  unfolding text holdsAt unknown
+  one-factor at v u next h = record {
+    tree = oneFactor (h .tree);
+    starts = h .starts;
+    ends = h .ends;
+    bytes = h .bytes;
+    letters = h .letters;
+    flag = h .flag;
+  }
+
+  more-factors : (at v : ℕ) (u : Bool) (next : ℕ) (q : Read) → isAt s next '&' ≡ true
+      → Wrote names n s factor at v u next → Sound term (next + 1) q
+      → Sound term at (joined bitAnd v u q)
+  unfolding text holdsAt unknown
+  more-factors at v u next Nothing e h g = tt
+  more-factors at v u next (Set w t last) e h g = record {
+    tree = and (h .tree) (g .tree);
+    starts = omega (arith, h .starts, g .starts);
+    ends = g .ends;
+    bytes = rw append-assoc (h .bytes ∙ rw (isAt-cons s next '&' e, g .bytes));
+    letters = sym (setOf-and n (holdsAt names (h .tree)) (holdsAt names (g .tree)))
+        ∙ rw (h .letters, g .letters);
+    flag = rw (h .flag, g .flag);
+  }
+
+  negated-sound : (at : ℕ) (r : Read) → isAt s at '!' ≡ true → Sound factor (at + 1) r
+      → Sound factor at (others n r)
+  unfolding text holdsAt unknown
+  negated-sound at Nothing e h = tt
+  negated-sound at (Set v u next) e h = record {
+    tree = negated (h .tree);
+    starts = omega (arith, h .starts);
+    ends = h .ends;
+    bytes = isAt-cons s at '!' e ∙ rw (h .bytes);
+    letters = sym (setOf-others n (holdsAt names (h .tree))) ∙ rw (h .letters);
+    flag = h .flag;
+  }
+
+  grouped-sound : (at : ℕ) (r : Read) → isAt s at opening ≡ true → Sound choice (at + 1) r
+      → Sound factor at (closed s r)
+  unfolding text holdsAt unknown
+  grouped-sound at Nothing e h = tt
+  grouped-sound at (Set v u next) e h = go (isAt s next closing) refl
+    where
+      go : (b : Bool) → isAt s next closing ≡ b
+          → Sound factor at (cond b (Set v u (next + 1)) Nothing)
+      go false q = tt
+      go true q = record {
+        tree = grouped (h .tree);
+        starts = omega (arith, h .starts);
+        ends = omega (arith, isAt-lt s next closing q);
+        bytes = isAt-cons s at opening e
+            ∙ rw (h .bytes, append-assoc, isAt-cons s next closing q);
+        letters = h .letters;
+        flag = h .flag;
+      }
+
+  name-sound : (at : ℕ) → Sound factor at (nameAt names n s at (letterRun (drop at s)))
+  unfolding nameAt text holdsAt unknown
+  name-sound at = go (eqb r 0) (ltb 8 r) refl refl
+    where
+      r : ℕ
+      r = letterRun (drop at s)
+
+      w : List ℕ
+      w = take r (drop at s)
+
+      go : (a b : Bool) → eqb r 0 ≡ a → ltb 8 r ≡ b → Sound factor at
+          (cond (a || b) Nothing (signal names n s (place names (nameOf w)) (at + r)))
+      go true b p q = tt
+      go false true p q = tt
+      go false false p q =
+          let le = letterRun-le (drop at s) in
+          let len = length-take-le r (drop at s) le in
+          let some = eqb-false r 0 p in
+          let few = ltb-false 8 r q in
+          record {
+            tree = named w (record {
+              some = omega arith;
+              few = omega arith;
+              letters = letterRun-every (drop at s);
+            });
+            starts = omega arith;
+            ends = omega (arith, length-drop at s);
+            bytes = sym (take-append-drop r (drop at s)) ∙ rw (drop-drop r at s);
+            letters = refl;
+            flag = refl;
+          }
+
+  digit-sound : (at : ℕ) → Sound factor at (digitAt names n s at)
+  unfolding digitAt text holdsAt unknown
+  digit-sound at = go (isAt s at '0') (isAt s at '1') refl refl
+    where
+      go : (a b : Bool) → isAt s at '0' ≡ a → isAt s at '1' ≡ b → Sound factor at
+          (cond a (Set 0 false (at + 1)) (cond b (Set (setOf n (λ _. true)) false (at + 1))
+          (nameAt names n s at (letterRun (drop at s)))))
+      go true b p q = record {
+        tree = never;
+        starts = omega arith;
+        ends = omega (arith, isAt-lt s at '0' p);
+        bytes = isAt-cons s at '0' p;
+        letters = setOf-false n;
+        flag = refl;
+      }
+      go false true p q = record {
+        tree = always;
+        starts = omega arith;
+        ends = omega (arith, isAt-lt s at '1' q);
+        bytes = isAt-cons s at '1' q;
+        letters = refl;
+        flag = refl;
+      }
+      go false false p q = name-sound at
+
+  factor-sound : (at : ℕ) (r q : Read) → Sound factor (at + 1) r → Sound choice (at + 1) q
+      → Sound factor at (cond (isAt s at '!') (others n r)
+      (cond (isAt s at opening) (closed s q) (digitAt names n s at)))
+  factor-sound at r q h g = go (isAt s at '!') (isAt s at opening) refl refl
+    where
+      go : (a b : Bool) → isAt s at '!' ≡ a → isAt s at opening ≡ b
+          → Sound factor at (cond a (others n r) (cond b (closed s q) (digitAt names n s at)))
+      go true b i j = negated-sound at r i h
+      go false true i j = grouped-sound at q j g
+      go false false i j = digit-sound at
+
+  pub sound : (f at : ℕ) (k : Kind) → Sound k at (reads names n s f k at)
+  unfolding reads
+  sound zero at k = tt
+  sound (suc f) at choice =
+      followed-sound '|' bitOr at (reads names n s f term at) (reads names n s f choice)
+      (one-term at) (more-terms at) (sound f at term) (λ m. sound f m choice)
+  sound (suc f) at term =
+      followed-sound '&' bitAnd at (reads names n s f factor at) (reads names n s f term)
+      (one-factor at) (more-factors at) (sound f at factor) (λ m. sound f m term)
+  sound (suc f) at factor =
+      factor-sound at (reads names n s f factor (at + 1)) (reads names n s f choice (at + 1))
+      (sound f (at + 1) factor) (sound f (at + 1) choice)

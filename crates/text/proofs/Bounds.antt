@@ -1,0 +1,125 @@
+-- `boundOf` says that bytes are a bound exactly where they are one of the texts `0` to `60`.
+-- Assumes nothing.
+use Prim.Native.Nat.{ℕ, zero, suc, _+_, _-_, _*_, _/_, _%_, _≤_, _<_}
+use borrow.Author.Tests.{lt-ltb, le-ltb, leb-true, le-leb}
+use native.Mathlib.Decide.{decLt}
+use native.Mathlib.Omega.{arith}
+use mathlib.Core.Bool.{Bool, true, false, _&&_, cond}
+use mathlib.Core.List.{List, [], _∷_}
+use mathlib.Core.Path.{_≡_, refl, _∙_}
+use lib.Dec.{leb}
+use lib.ListN.{length, getD}
+use Rattle.letters.proofs.Lists.{and-left, and-right}
+use Rattle.text.specs.Bounds.{digits, decimal, IsBound}
+use Rattle.text.specs.Bounds.{within, oneDigit, twoDigits, boundOf}
+use Rattle.text.specs.declared.Bound.the-variants.{Value, Wrong}
+
+-- Numbers of one digit and of two.
+decimal-one : (n : ℕ) → n < 10 → decimal n ≡ (48 + n) ∷ []
+unfolding decimal digits
+decimal-one n h = rw (lt-ltb n 10 h)
+
+decimal-two : (n : ℕ) → 10 ≤ n → n < 100 → decimal n ≡ (48 + n / 10) ∷ (48 + n % 10) ∷ []
+unfolding decimal digits
+decimal-two zero h g = absurd (omega arith)
+decimal-two (suc n) h g = rw (le-ltb (suc n) 10 h, lt-ltb (suc n / 10) 10 (omega arith))
+
+pub within-true : (a b x : ℕ) → a ≤ x → x ≤ b → within a b x ≡ true
+within-true a b x h g = rw (le-leb a x h, le-leb x b g)
+
+-- Each bound is found.
+pub boundOf-complete : (xs : List ℕ) (n : ℕ) → IsBound xs n → boundOf xs ≡ Value n
+unfolding boundOf
+boundOf-complete xs n h = go (decLt n 10)
+  where
+    go : Dec (n < 10) → boundOf xs ≡ Value n
+    go (yes few) =
+        let value : 48 + n - 48 ≡ n = omega arith in
+        rw (
+          ← h .bytes,
+          decimal-one n few,
+          within-true 48 57 (48 + n) (omega arith) (omega arith),
+          value,
+        )
+    go (no many) =
+        let value : 10 * (48 + n / 10 - 48) + (48 + n % 10 - 48) ≡ n = omega arith in
+        let first = within-true 49 57 (48 + n / 10) (omega arith) (omega arith) in
+        let second = within-true 48 57 (48 + n % 10) (omega arith) (omega arith) in
+        rw (
+          ← h .bytes,
+          decimal-two n (omega arith) (omega arith),
+          first,
+          second,
+          value,
+          le-leb n 60 (h .small),
+        )
+
+pub boundOf-wrong : (xs : List ℕ) → boundOf xs ≡ Wrong → (n : ℕ) → IsBound xs n → ⊥
+boundOf-wrong xs e n h =
+    let found = boundOf-complete xs n h in
+    let z : _≡_ {A = ℕ} 0 1 = cc in
+    omega arith
+
+-- What is found is a bound.
+cond-value : (t : Bool) (v n : ℕ) → cond t (Value v) Wrong ≡ Value n → (t ≡ true) × (v ≡ n)
+cond-value true v n e = (refl, cc)
+cond-value false v n e = absurd (let z : _≡_ {A = ℕ} 0 1 = cc in omega arith)
+
+within-bounds : (a b x : ℕ) → within a b x ≡ true → (a ≤ x) × (x ≤ b)
+within-bounds a b x h =
+    (leb-true a x (and-left (leb a x) (leb x b) h), leb-true x b (and-right (leb a x) (leb x b) h))
+
+oneDigit-right : (a n : ℕ) → oneDigit a ≡ Value n → IsBound (a ∷ []) n
+oneDigit-right a n e =
+    let told = cond-value (within 48 57 a) (a - 48) n e in
+    let digit = within-bounds 48 57 a (told .0) in
+    let same : 48 + n ≡ a = omega arith in
+    record { small = omega arith; bytes = decimal-one n (omega arith) ∙ rw same }
+
+twoDigits-right : (a b n : ℕ) → twoDigits a b ≡ Value n → IsBound (a ∷ b ∷ []) n
+twoDigits-right a b n e =
+    let v = 10 * (a - 48) + (b - 48) in
+    let told = cond-value (within 49 57 a && within 48 57 b && leb v 60) v n e in
+    let both = and-left (within 49 57 a && within 48 57 b) (leb v 60) (told .0) in
+    let first = within-bounds 49 57 a (and-left (within 49 57 a) (within 48 57 b) both) in
+    let second = within-bounds 48 57 b (and-right (within 49 57 a) (within 48 57 b) both) in
+    let most = leb-true v 60 (and-right (within 49 57 a && within 48 57 b) (leb v 60) (told .0)) in
+    let same : 48 + n / 10 ≡ a = omega arith in
+    let same-too : 48 + n % 10 ≡ b = omega arith in
+    record {
+      small = omega arith;
+      bytes = decimal-two n (omega arith) (omega arith) ∙ rw (same, same-too);
+    }
+
+pub boundOf-right : (xs : List ℕ) (n : ℕ) → boundOf xs ≡ Value n → IsBound xs n
+unfolding boundOf
+boundOf-right [] n e = absurd (let z : _≡_ {A = ℕ} 0 1 = cc in omega arith)
+boundOf-right (a ∷ []) n e = oneDigit-right a n e
+boundOf-right (a ∷ b ∷ []) n e = twoDigits-right a b n e
+boundOf-right (a ∷ b ∷ c ∷ xs) n e = absurd (let z : _≡_ {A = ℕ} 0 1 = cc in omega arith)
+
+pub boundOf-value-small : (xs : List ℕ) (n : ℕ) → boundOf xs ≡ Value n → n ≤ 60
+boundOf-value-small xs n e = boundOf-right xs n e .small
+
+-- `boundOf` by how many bytes there are.
+pub boundOf-one : (xs : List ℕ) → length xs ≡ 1 → boundOf xs ≡ oneDigit (getD xs 0 0)
+unfolding boundOf
+boundOf-one [] h = absurd (omega arith)
+boundOf-one (a ∷ []) h = refl
+boundOf-one (a ∷ b ∷ []) h = absurd (omega arith)
+boundOf-one (a ∷ b ∷ c ∷ xs) h = absurd (omega arith)
+
+pub boundOf-two : (xs : List ℕ) → length xs ≡ 2
+    → boundOf xs ≡ twoDigits (getD xs 0 0) (getD xs 1 0)
+unfolding boundOf
+boundOf-two [] h = absurd (omega arith)
+boundOf-two (a ∷ []) h = absurd (omega arith)
+boundOf-two (a ∷ b ∷ []) h = refl
+boundOf-two (a ∷ b ∷ c ∷ xs) h = absurd (omega arith)
+
+pub boundOf-other : (xs : List ℕ) → (length xs ≡ 1 → ⊥) → (length xs ≡ 2 → ⊥) → boundOf xs ≡ Wrong
+unfolding boundOf
+boundOf-other [] h g = refl
+boundOf-other (a ∷ []) h g = absurd (h refl)
+boundOf-other (a ∷ b ∷ []) h g = absurd (g refl)
+boundOf-other (a ∷ b ∷ c ∷ xs) h g = refl

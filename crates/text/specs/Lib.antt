@@ -1,0 +1,3 @@
+-- Bytes: cut at a byte into lines and fields, and bounds in base ten.
+pub mod Split
+pub mod Bounds
