@@ -8,10 +8,13 @@ use mathlib.Core.List.{List, map}
 use mathlib.Core.Path.{_≡_, sym, ap, _∙_}
 use lib.ListN.{length, getD}
 use native.Mathlib.Nat.{lt-of-lt-of-le}
-use Rattle.letters.specs.Letter.{letters, letterFits}
+use Rattle.letters.specs.Letter.{letters, letterFits, inSet}
+use Rattle.letters.proofs.Sets.{in-setOf}
 use Rattle.table.specs.Row.{noRow}
-use Rattle.table.specs.Valid.{rulesFit}
+use Rattle.table.specs.Valid.{rulesFit, tableFits}
+use Rattle.table.specs.declared.Name.{Name}
 use Rattle.table.specs.declared.Row.{Row}
+use Rattle.table.specs.declared.Table.{Table}
 use Rattle.table.proofs.Laws.{rulesFit-rows}
 use Rattle.traces.specs.Trace.{AllBelow, run}
 use Rattle.step.specs.declared.Phase.the-variants.{Waiting}
@@ -28,11 +31,74 @@ use Rattle.watcher.specs.Watch.{phasesOf, watchOf, startWatch}
 use Rattle.watcher.specs.Answer.{firstNumber, tickAnswer}
 use Rattle.table.specs.Refusal.{numberOf, lineOf}
 use Rattle.watcher.proofs.Records.{watch-phases}
+use Rattle.text.specs.Bounds.{IsBound, boundOf}
+use Rattle.text.specs.declared.Bound.the-variants.{Value}
+use Rattle.text.proofs.Bounds.{boundOf-right, boundOf-complete}
+use Rattle.conditions.specs.Condition.{Cond, choice, text, holdsAt}
+use Rattle.conditions.specs.Judge.{Right, judge}
+use Rattle.conditions.specs.declared.Judged.{Judged}
+use Rattle.conditions.proofs.Conditions.{trees-letters}
+use Rattle.conditions.proofs.Judging as J
+use Rattle.reader.specs.File.{readAnswer}
+use Rattle.reader.specs.Grammar.{IsCondition, IsFile, Answered, accepted}
+use Rattle.reader.specs.declared.Reading.{Reading}
+use Rattle.reader.proofs.Accepted as R
+use Rattle.reader.proofs.Answers as A
+use Rattle.reader.proofs.Fits as F
 use Rattle.demands.specs.Watching.{recordAfter, Accepted}
 use Rattle.demands.proofs.Watching as W
 
--- Demand 2: "after every trace of ticks each row is in the phase that the step rules give, broken
--- or not." From the start, and from any record that number 18 lets by.
+-- The reader. Demand 1: any bytes are accepted with a table, or refused with a number, its line and
+-- an empty table.
+pub read-answered : (bytes : List ℕ) → Answered (readAnswer bytes)
+read-answered = A.read-answered
+
+-- Demand 2: "the reader accepts exactly the tables that document 01 describes, keeps each name and
+-- bound and gives each condition its meaning". No bytes have two tables, and each table is one that
+-- number 17 lets by.
+module _ (bytes : List ℕ) (table : Table) where
+  pub accepted-file : readAnswer bytes ≡ accepted table → IsFile bytes table
+  accepted-file = R.accepted-file bytes table
+
+  pub file-accepted : IsFile bytes table → readAnswer bytes ≡ accepted table
+  file-accepted = R.file-accepted bytes table
+
+  pub file-unique : (other : Table) → IsFile bytes table → IsFile bytes other → table ≡ other
+  file-unique other p q =
+      ap (λ (r : Reading). r .table)
+      (sym (R.file-accepted bytes table p) ∙ R.file-accepted bytes other q)
+
+  pub file-fits : IsFile bytes table → tableFits table ≡ true
+  file-fits = F.file-fits bytes table
+
+-- A letter is in a condition's set exactly where the condition holds, whichever tree its bytes are
+-- read as: "whatever parentheses and repeated `!` it has".
+pub condition-meaning : (names : List Name) (n : ℕ) (xs : List ℕ) (set : ℕ)
+    → IsCondition names n xs set → (tree : Cond choice) → text tree ≡ xs → (l : ℕ) → l < n
+    → inSet set l ≡ holdsAt names tree l
+condition-meaning names n xs set c tree e l low =
+    let m = c .means in
+    rw (← m .letters)
+    (in-setOf n l (holdsAt names (m .tree)) low
+    ∙ trees-letters names (m .tree) tree (m .bytes ∙ sym e) l)
+
+-- "11, 12, 13 over the whole condition": what is said of a condition is right, and nothing else is;
+-- and a bound is one of the texts `0` to `60`.
+module _ (names : List Name) (n : ℕ) (xs : List ℕ) where
+  pub judge-right : Right names n xs (judge names n xs)
+  judge-right = J.judge-right names n xs
+
+  pub right-unique : {a b : Judged} → Right names n xs a → Right names n xs b → a ≡ b
+  right-unique = J.right-unique names n xs
+
+pub bound-right : (xs : List ℕ) (n : ℕ) → boundOf xs ≡ Value n → IsBound xs n
+bound-right = boundOf-right
+
+pub bound-found : (xs : List ℕ) (n : ℕ) → IsBound xs n → boundOf xs ≡ Value n
+bound-found = boundOf-complete
+
+-- The watcher. Demand 2: "after every trace of ticks each row is in the phase that the step rules
+-- give, broken or not." From the start, and from any record that number 18 lets by.
 pub start-accepted : (s : ℕ) (rows : List Row) → rulesFit s rows ≡ true → Accepted s rows startWatch
 start-accepted = W.start-accepted
 

@@ -4,7 +4,7 @@ use native.Mathlib.Decide.{decLe}
 use native.Mathlib.Omega.{arith}
 use mathlib.Core.Bool.{Bool, true, false, cond}
 use mathlib.Core.List.{List, [], _∷_, _++_, map, append-assoc, append-nil, map-append}
-use mathlib.Core.Path.{_≡_, refl, sym, ap, ap₂, _∙_}
+use mathlib.Core.Path.{_≡_, refl, sym, ap, _∙_}
 use borrow.Author.Count.{below-more}
 use borrow.Author.Tests.{lt-ltb, le-ltb, eq-eqb, ne-eqb}
 use lib.Dec.{eqb, ltb}
@@ -12,7 +12,7 @@ use lib.ListN.{length, getD, take, drop, set, replicate, length-append, length-d
 use lib.ListN.{drop-of-length-le, length-set}
 use lib.Seq.{drop-drop, ext-getD, getD-set-same, getD-set-other}
 use Rattle.letters.specs.Letter.{width}
-use Rattle.table.specs.Limits.{mostSignals, mostRows}
+use Rattle.table.specs.Limits.{mostRows}
 use Rattle.table.specs.declared.Outcome.the-variants.{Accepted}
 use Rattle.table.specs.declared.Name.{Name}
 use Rattle.table.specs.declared.Row.{Row}
@@ -20,7 +20,6 @@ use Rattle.text.specs.Split.{count, split, front, behind}
 use Rattle.text.proofs.Splits.{front-whole, behind-drop}
 use Rattle.reader.proofs.Parts.{rest-whole}
 use Rattle.reader.proofs.SignalLaws.{added-few, length-none}
-use Rattle.reader.specs.declared.Reading.{Reading}
 use Rattle.reader.specs.declared.header.Signals.{Signals}
 use Rattle.reader.specs.declared.row.RowRead.{RowRead}
 use Rattle.reader.specs.Lines.{LF, prefixed, lines}
@@ -31,7 +30,7 @@ use Rattle.reader.specs.File.{behindSignals, bodyAnswer, fileAnswer, rea
 use Rattle.reader.specs.Header.{headerNumber, signalsAnswer}
 
 -- The first line, and the others.
-lines-cons : (xs : List ℕ) → 0 < length xs → lines xs ≡ front LF xs ∷ lines (behind LF xs)
+pub lines-cons : (xs : List ℕ) → 0 < length xs → lines xs ≡ front LF xs ∷ lines (behind LF xs)
 unfolding lines front behind
 lines-cons [] h = absurd (omega arith)
 lines-cons (x ∷ xs) h = go (eqb x LF) xs (lines-cons xs)
@@ -368,7 +367,7 @@ module _ (rest : List ℕ) where
           ne-eqb (getD rest (length rest - 1) 0) LF other,
         )
 
-    read-lines : getD rest (length rest - 1) 0 ≡ LF → readAnswer rest ≡ fileAnswer (lines rest)
+    pub read-lines : getD rest (length rest - 1) 0 ≡ LF → readAnswer rest ≡ fileAnswer (lines rest)
     unfolding readAnswer
     read-lines same =
         rw (

@@ -1,6 +1,7 @@
--- The reader. Read `Lines`, `Header`, `Row`, `File` (which number and line each file gets, and
--- which table), then `Grammar` (the accepted files).
+-- The reader. Read `Grammar` (the accepted files, and the places of refusals); then `Lines`,
+-- `Header`, `Row`, `File` (which number and line each other file gets).
 pub mod Lines
 pub mod Header
 pub mod Row
 pub mod File
+pub mod Grammar

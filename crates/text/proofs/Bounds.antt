@@ -5,11 +5,12 @@ use borrow.Author.Tests.{lt-ltb, le-ltb, leb-true, le-leb}
 use native.Mathlib.Decide.{decLt}
 use native.Mathlib.Omega.{arith}
 use mathlib.Core.Bool.{Bool, true, false, _&&_, cond}
-use mathlib.Core.List.{List, [], _∷_}
+use mathlib.Core.List.{List, [], _∷_, _++_}
 use mathlib.Core.Path.{_≡_, refl, _∙_}
-use lib.Dec.{leb}
+use lib.Dec.{leb, ltb}
 use lib.ListN.{length, getD}
-use Rattle.letters.proofs.Lists.{and-left, and-right}
+use Rattle.letters.specs.Lists.{every}
+use Rattle.letters.proofs.Lists.{and-left, and-right, every-append}
 use Rattle.text.specs.Bounds.{digits, decimal, IsBound}
 use Rattle.text.specs.Bounds.{within, oneDigit, twoDigits, boundOf}
 use Rattle.text.specs.declared.Bound.the-variants.{Value, Wrong}
@@ -123,3 +124,22 @@ boundOf-other [] h g = refl
 boundOf-other (a ∷ []) h g = absurd (h refl)
 boundOf-other (a ∷ b ∷ []) h g = absurd (g refl)
 boundOf-other (a ∷ b ∷ c ∷ xs) h g = refl
+
+-- A number is written in digits alone.
+digits-within : (k n : ℕ) → every (within 48 57) (digits k n) ≡ true
+unfolding digits every
+digits-within zero n = refl
+digits-within (suc k) n = go (decLt n 10) (digits-within k (n / 10))
+  where
+    go : Dec (n < 10) → every (within 48 57) (digits k (n / 10)) ≡ true
+        → every (within 48 57) (cond (ltb n 10) ((48 + n) ∷ [])
+        (digits k (n / 10) ++ ((48 + n % 10) ∷ []))) ≡ true
+    go (yes few) ih = rw (lt-ltb n 10 few, within-true 48 57 (48 + n) (omega arith) (omega arith))
+    go (no many) ih =
+        let last = within-true 48 57 (48 + n % 10) (omega arith) (omega arith) in
+        rw (le-ltb n 10 (omega arith))
+        (every-append (within 48 57) (digits k (n / 10)) ((48 + n % 10) ∷ []) ∙ rw (ih, last))
+
+pub decimal-within : (n : ℕ) → every (within 48 57) (decimal n) ≡ true
+unfolding decimal
+decimal-within n = digits-within (suc n) n

@@ -138,7 +138,13 @@ returns-4 c =
     ap₂ (λ (k : ℕ) (l : List Row). record {
       outcome = Accepted;
       table =
-          record { signals = start .args .signals; names = start .args .names; count = k; rows = l };
+          record {
+            signals = start .args .signals;
+            names = start .args .names;
+            count = k;
+            rows =
+                l;
+          };
     })
     (sym (length-map (q .loop .inv .0) rowOf ∙ g .many))
     (c .rows-of .ensures ∙ gathered-all _ _ _ _ _ _ _ _ g)

@@ -1,0 +1,122 @@
+-- Lines and pieces put together again: `ended` against `lines`, `joined` against `split`.
+-- Assumes nothing.
+use Prim.Native.Nat.{ℕ, suc, _+_, _-_, _<_}
+use borrow.Author.Tests.{eqb-true}
+use native.Mathlib.Numerals.{unary-clauses}
+use native.Mathlib.Omega.{arith}
+use mathlib.Core.Bool.{Bool, true, false, cond, true≢false}
+use mathlib.Core.List.{List, [], _∷_, _++_}
+use mathlib.Core.Path.{_≡_, refl, sym, ap, ap₂, _∙_}
+use lib.Dec.{eqb}
+use lib.ListN.{length, getD, length-append}
+use lib.Seq.{getD-append-seam, getD-append-add}
+use Rattle.letters.specs.Lists.{every}
+use Rattle.letters.proofs.Lists.{and-left, and-right}
+use Rattle.text.specs.Split.{count, longer, split, front, behind}
+use Rattle.text.proofs.Splits.{count-append, split-length, split-front, split-append}
+use Rattle.text.proofs.Splits.{front-append, behind-append}
+use Rattle.reader.specs.Lines.{LF, prefixed, lines}
+use Rattle.reader.specs.Grammar.{ended, joined}
+use Rattle.reader.proofs.FileLaws.{lines-cons}
+
+-- A byte stands in none of the pieces.
+pub data Free (b : ℕ) : List (List ℕ) → Type 0 where
+  none : Free b []
+  and : {piece : List ℕ} {more : List (List ℕ)} → count b piece ≡ 0 → Free b more
+      → Free b (piece ∷ more)
+
+pub split-joined : (b : ℕ) (piece : List ℕ) (more : List (List ℕ)) → Free b (piece ∷ more)
+    → split b (joined b piece more) ≡ piece ∷ more
+unfolding joined
+split-joined b piece [] (and h f) = split-front b piece h
+split-joined b piece (next ∷ more) (and h f) =
+    split-append b piece (joined b next more) h ∙ ap (_∷_ piece) (split-joined b next more f)
+
+-- Pieces of a cut, joined again.
+abbrev pub rejoined : ℕ → List (List ℕ) → List ℕ
+rejoined b [] = []
+rejoined b (piece ∷ more) = joined b piece more
+
+joined-byte : (b x : ℕ) (piece : List ℕ) (more : List (List ℕ))
+    → joined b (x ∷ piece) more ≡ x ∷ joined b piece more
+unfolding joined
+joined-byte b x piece [] = refl
+joined-byte b x piece (next ∷ more) = refl
+
+pub joined-split : (b : ℕ) (xs : List ℕ) → rejoined b (split b xs) ≡ xs
+unfolding split joined
+joined-split b [] = refl
+joined-split b (x ∷ xs) = go (eqb x b) refl (split b xs) (split-length b xs) (joined-split b xs)
+  where
+    go : (t : Bool) → eqb x b ≡ t → (pieces : List (List ℕ)) → length pieces ≡ suc (count b xs)
+        → rejoined b pieces ≡ xs → rejoined b (cond t ([] ∷ pieces) (longer x pieces)) ≡ x ∷ xs
+    go t e [] some h = absurd (omega arith)
+    go true e (piece ∷ pieces) some h = ap₂ _∷_ (sym (eqb-true x b e)) h
+    go false e (piece ∷ pieces) some h = joined-byte b x piece pieces ∙ ap (_∷_ x) h
+
+pub joined-free : (b c : ℕ) → eqb b c ≡ false → (piece : List ℕ) (more : List (List ℕ))
+    → Free c (piece ∷ more) → count c (joined b piece more) ≡ 0
+unfolding joined count
+joined-free b c e piece [] (and h f) = h
+joined-free b c e piece (next ∷ more) (and h f) =
+    let rest = joined-free b c e next more f in
+    count-append c piece (b ∷ joined b next more) ∙ rw (h, e, rest)
+
+-- Lines.
+lines-append : (line ys : List ℕ) → count LF line ≡ 0 → lines (line ++ LF ∷ ys) ≡ line ∷ lines ys
+lines-append line ys h =
+    let some : 0 < length (line ++ LF ∷ ys) = rw length-append (omega arith) in
+    lines-cons (line ++ LF ∷ ys) some
+    ∙ ap₂ (λ (l ys : List ℕ). l ∷ lines ys) (front-append LF line ys h) (behind-append LF line ys h)
+
+pub lines-ended : (ls : List (List ℕ)) → Free LF ls → lines (ended ls) ≡ ls
+unfolding ended lines
+lines-ended [] none = refl
+lines-ended (line ∷ more) (and h f) =
+    lines-append line (ended more) h ∙ ap (_∷_ line) (lines-ended more f)
+
+pub ended-lines : (xs : List ℕ) → (length xs ≡ 0 → ⊥) → getD xs (length xs - 1) 0 ≡ LF
+    → ended (lines xs) ≡ xs
+unfolding ended lines
+ended-lines [] some last = absurd (some refl)
+ended-lines (x ∷ []) some last = rw last
+ended-lines (x ∷ y ∷ ys) some last =
+    go (eqb x LF) refl (lines (y ∷ ys)) (lines-cons (y ∷ ys) (omega arith))
+    (ended-lines (y ∷ ys) (λ e. omega arith) (simp unary-clauses (simp unary-clauses at last)))
+  where
+    go : (t : Bool) → eqb x LF ≡ t → (ls : List (List ℕ))
+        → ls ≡ front LF (y ∷ ys) ∷ lines (behind LF (y ∷ ys)) → ended ls ≡ y ∷ ys
+        → ended (cond t ([] ∷ ls) (prefixed x ls)) ≡ x ∷ y ∷ ys
+    go true e ls l h = ap₂ _∷_ (sym (eqb-true x LF e)) h
+    go false e [] l h = absurd (let z = ap length l in omega arith)
+    go false e (line ∷ ls) l h = ap (_∷_ x) h
+
+pub ended-last : (line : List ℕ) (more : List (List ℕ)) → let xs = ended (line ∷ more) in
+    getD xs (length xs - 1) 0 ≡ LF
+unfolding ended
+ended-last line [] =
+    let e : length (line ++ LF ∷ []) - 1 ≡ length line = rw length-append (omega arith) in
+    ap (λ (k : ℕ). getD (line ++ LF ∷ []) k 0) e ∙ getD-append-seam line LF [] 0
+ended-last line (next ∷ more) =
+    let rest = ended (next ∷ more) in
+    let some : 0 < length rest = rw length-append (omega arith) in
+    let e : length (line ++ LF ∷ rest) - 1 ≡ length line + suc (length rest - 1) =
+    rw length-append (omega arith)
+    in
+    ap (λ (k : ℕ). getD (line ++ LF ∷ rest) k 0) e
+    ∙ getD-append-add line (LF ∷ rest) (suc (length rest - 1)) 0
+    ∙ ended-last next more
+
+-- Bytes that all pass a test: no other byte is among them.
+pub passing-free : (test : ℕ → Bool) (b : ℕ) → test b ≡ false → (xs : List ℕ)
+    → every test xs ≡ true → count b xs ≡ 0
+unfolding every count
+passing-free test b e [] h = refl
+passing-free test b e (x ∷ xs) h =
+    go (eqb x b) refl (passing-free test b e xs (and-right (test x) (every test xs) h))
+  where
+    go : (t : Bool) → eqb x b ≡ t → count b xs ≡ 0 → cond t (suc (count b xs)) (count b xs) ≡ 0
+    go true same rest =
+        absurd (true≢false (sym (and-left (test x) (every test xs) h)
+        ∙ ap test (eqb-true x b same) ∙ e))
+    go false other rest = rest
