@@ -1,3 +1,5 @@
+-- `watch_cases::print_letters` is safe and ends. The invariant says nothing. The measure: how many
+-- letters are left. Assumes nothing but the contract of the C function `write`, which `io` calls.
 use lib.ListN.{length}
 use Prim.Native.Nat.{_-_}
 use borrow.Author.Needs.{needs}

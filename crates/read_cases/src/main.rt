@@ -1,0 +1,133 @@
+// Reads each file that its arguments name and prints what the reader makes of it: the refusal, or
+// the table.
+use libc::STDOUT_FILENO;
+use table::MOST_ROWS;
+use table::MOST_SIGNALS;
+use table::Name;
+use table::Outcome;
+use table::Row;
+use table::Table;
+
+fn print(word: &[u8]) {
+    io::write_all(STDOUT_FILENO, word);
+}
+
+fn print_number(before: &[u8], n: u64) {
+    io::write_all(STDOUT_FILENO, before);
+    io::print_decimal(STDOUT_FILENO, n);
+}
+
+fn print_byte(before: &[u8], n: u8) {
+    print_number(before, n as u64);
+}
+
+// The letters up to a 0.
+fn print_letters(letters: &[u8]) {
+    let n = text::find(letters, 0);
+    if n <= letters.len() {
+        print(&letters[..n]);
+    }
+}
+
+fn print_name(name: Name) {
+    let letters = name.letters;
+    print(b" ");
+    print_letters(&letters);
+}
+
+fn print_names(names: [Name; MOST_SIGNALS], count: u8) {
+    let mut k: u8 = 0;
+    while k < count {
+        let i = k as usize;
+        if i < MOST_SIGNALS {
+            print_name(names[i]);
+        }
+        k += 1;
+    }
+}
+
+// `  sets 10 10 10 12 12 12 ticks 0 0 1 1 0 0`.
+fn print_row(row: Row) {
+    print(b"  sets");
+    print_number(b" ", row.sets[0]);
+    print_number(b" ", row.sets[1]);
+    print_number(b" ", row.sets[2]);
+    print_number(b" ", row.sets[3]);
+    print_number(b" ", row.sets[4]);
+    print_number(b" ", row.sets[5]);
+    print(b" ticks");
+    print_byte(b" ", row.tmin);
+    print_byte(b" ", row.tmax);
+    print_byte(b" ", row.lmin);
+    print_byte(b" ", row.lmax);
+    print_byte(b" ", row.amin);
+    print_byte(b" ", row.amax);
+    print(b"\n");
+}
+
+fn print_rows(rows: [Row; MOST_ROWS], count: u8) {
+    let mut k: u8 = 0;
+    while k < count {
+        let i = k as usize;
+        if i < MOST_ROWS {
+            print_row(rows[i]);
+        }
+        k += 1;
+    }
+}
+
+fn print_table(table: Table) {
+    let names = table.names;
+    print_byte(b"signals ", table.signals);
+    print_names(names, table.signals);
+    print_byte(b" rows ", table.count);
+    if table::valid(table) {
+        print(b" valid\n");
+    } else {
+        print(b" not valid\n");
+    }
+    let rows = table.rows;
+    print_rows(rows, table.count);
+}
+
+fn show(bytes: &[u8]) {
+    let read = reader::read(bytes);
+    let outcome = read.outcome;
+    match outcome {
+        Outcome::Accepted => {
+            let table = read.table;
+            print_table(table);
+        }
+        Outcome::Refused(refusal) => {
+            print_byte(b"refused ", refusal.number);
+            print_byte(b" line ", refusal.line);
+            print(b"\n");
+        }
+    }
+}
+
+// Argument i, counted from 1: the name of a file.
+fn show_file(i: usize) {
+    let mut path = io::buffer();
+    let length = os::arg(i, &mut path);
+    print(&path[..length]);
+    print(b": ");
+    let fd = os::open_read(&path[..length]);
+    if fd < 0 {
+        print(b"no such file\n");
+        return;
+    }
+    let mut buffer = [0u8; 5000];
+    let n = io::read_full(fd, &mut buffer);
+    libc::close(fd);
+    show(&buffer[..n]);
+}
+
+fn main() {
+    let n = os::arg_count();
+    let mut i: usize = 1;
+    while i < n {
+        show_file(i);
+        i += 1;
+    }
+}
