@@ -63,6 +63,14 @@ module _ (names : List Name) (n : ℕ) (xs : List ℕ) where
       go r (is13 h m) q = inr (inr (cc))
       go r (good h m) q = absurd (let z : _≡_ {A = ℕ} 0 1 = cc in omega arith)
 
+  pub judge-some : (m : ℕ) → judge names n xs ≡ Refused m → (m ≡ 0 → ⊥)
+  judge-some m e z = go (judge-number m e)
+    where
+      go : (m ≡ 11) ⊎ ((m ≡ 12) ⊎ (m ≡ 13)) → ⊥
+      go (inl k) = omega arith
+      go (inr (inl k)) = omega arith
+      go (inr (inr k)) = omega arith
+
   -- No letter from n on is in the set.
   pub judge-below : (v : ℕ) → judge names n xs ≡ Letters v → v < 2 ^ n
   judge-below v e =

@@ -87,7 +87,8 @@ fn place_of(names: [Name; MOST_SIGNALS], signals: u8, name: Name) -> u8
 
 // The name at a place: none and over eight letters are no name.
 fn name_at(s: &[u8], at: usize, names: [Name; MOST_SIGNALS], signals: u8) -> Read
-    ensures { λ r. ⌜ r ≡ nameAt (take signals names) (width signals) (now (s .entry)) at (letterRun (drop at (now (s .entry)))) ⌝ }
+    ensures { λ r. ⌜ r ≡ nameAt (take signals names) (width signals) (now (s .entry)) at
+        (letterRun (drop at (now (s .entry)))) ⌝ }
 {
     let run = run_at(s, at);
     if run == 0 {
@@ -162,7 +163,8 @@ fn close(s: &[u8], part: Read) -> Read
 
 // A choice: one or more terms joined by `|`.
 fn choice(s: &[u8], at: usize, names: [Name; MOST_SIGNALS], signals: u8) -> Read
-    ensures { λ r. ⌜ Meant (take signals names) (width signals) (now (s .entry)) Kind.choice at r ⌝ }
+    ensures { λ r. ⌜ Meant (take signals names) (width signals) (now (s .entry))
+        Kind.choice at r ⌝ }
 {
     match term(s, at, names, signals) {
         Read::Nothing => Read::Nothing,
@@ -178,7 +180,8 @@ fn choice(s: &[u8], at: usize, names: [Name; MOST_SIGNALS], signals: u8) -> Read
 
 // A term: one or more factors joined by `&`.
 fn term(s: &[u8], at: usize, names: [Name; MOST_SIGNALS], signals: u8) -> Read
-    ensures { λ r. ⌜ Meant (take signals names) (width signals) (now (s .entry)) Kind.term at r ⌝ }
+    ensures { λ r. ⌜ Meant (take signals names) (width signals) (now (s .entry))
+        Kind.term at r ⌝ }
 {
     match factor(s, at, names, signals) {
         Read::Nothing => Read::Nothing,
@@ -194,7 +197,8 @@ fn term(s: &[u8], at: usize, names: [Name; MOST_SIGNALS], signals: u8) -> Read
 
 // A factor: `!` and a factor, a choice in parentheses, or `0`, `1` or a name.
 fn factor(s: &[u8], at: usize, names: [Name; MOST_SIGNALS], signals: u8) -> Read
-    ensures { λ r. ⌜ Meant (take signals names) (width signals) (now (s .entry)) Kind.factor at r ⌝ }
+    ensures { λ r. ⌜ Meant (take signals names) (width signals) (now (s .entry))
+        Kind.factor at r ⌝ }
 {
     if is_at(s, at, b'!') {
         negate(signals, factor(s, at + 1, names, signals))

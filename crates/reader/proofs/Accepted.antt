@@ -103,7 +103,11 @@ module _ (names : List Name) (signals : ℕ) where
   rules-free rules rows (and {a} {b} {l} {m} r more) =
       and-piece (row-free (take signals names) (width signals) a b r) (rules-free l m more)
 
--- Line 2.
+-- Line 2. The names that a table value keeps, without the unused ones.
+pub names-taken : (names : List (List ℕ))
+    → take (length names) (namesFrom names) ≡ map nameOf names
+names-taken names = take-at (map nameOf names) _ (length names) (length-map names nameOf)
+
 names-free : (b : ℕ) → isLetter b ≡ false → (names : List (List ℕ)) → every isName names ≡ true
     → Free b names
 unfolding every isName
@@ -226,15 +230,11 @@ module _ (bytes : List ℕ) (t : Table) (f : IsFile bytes t) where
         f .names-differ;
   }
 
-  names-taken : take (length (f .names)) (namesFrom (f .names)) ≡ map nameOf (f .names)
-  names-taken =
-      take-at (map nameOf (f .names)) _ (length (f .names)) (length-map (f .names) nameOf)
-
   abbrev rule : List Name → List ℕ → Row → Type 0
   rule names = IsRow names (width (length (f .names)))
 
   rules-are : Each (rule (take (length (f .names)) (namesFrom (f .names)))) (f .rules) (f .rows)
-  rules-are = rw names-taken (f .rows-are)
+  rules-are = rw (names-taken (f .names)) (f .rows-are)
 
   abbrev header : List ℕ
   header = PNP ++ version1
@@ -410,9 +410,6 @@ accepted-file bytes t e =
     file .lines-are ∙ ap (_∷_ (PNP ++ version1)) (body .lines-are
     ∙ ap (λ (l : List ℕ). l ∷ body .rules) (second .bytes))
     in
-    let taken : take (length names) (namesFrom names) ≡ map nameOf names =
-    take-at (map nameOf names) _ (length names) (length-map names nameOf)
-    in
     record {
       names = names;
       rules = body .rules;
@@ -425,6 +422,6 @@ accepted-file bytes t e =
       names-differ = second .fit .differ;
       rows-some = rest .some;
       rows-few = rest .few;
-      rows-are = rw (← taken) (rest .are);
+      rows-are = rw (← names-taken names) (rest .are);
       table-is = rest .table;
     }

@@ -1,11 +1,11 @@
 -- Each file is accepted or refused, and a refusal has a number and its line. Assumes nothing.
 use Prim.Native.Nat.{ℕ, _+_, _-_, _≤_}
-use borrow.Author.Tests.{eqb-false, ltb-true}
+use borrow.Author.Tests.{eqb-false, ltb-true, ltb-false}
 use native.Mathlib.Omega.{arith}
 use mathlib.Core.Bool.{Bool, true, false, _&&_, cond, true≢false}
 use mathlib.Core.List.{List, [], _∷_, map}
 use mathlib.Core.Logic.{_⊎_, inl, inr}
-use mathlib.Core.Path.{_≡_, refl, sym, ap}
+use mathlib.Core.Path.{_≡_, refl, sym, ap, subst}
 use lib.Dec.{eqb, leb, ltb}
 use lib.ListN.{length, getD, take, drop}
 use Rattle.letters.specs.Letter.{width}
@@ -33,44 +33,48 @@ use Rattle.reader.specs.Header.{namesFrom}
 use Rattle.reader.specs.Row.{comma, isBound, fieldOf, fieldsOf, faultOf, firstFault, valueOf}
 use Rattle.reader.specs.Row.{judgedField, ticksField, ordered, boundsFrom, isRule, setsFrom}
 use Rattle.reader.specs.Row.{rowRefused, rowFields, rowAnswer}
-use Rattle.reader.specs.Grammar.{Place, noLine, line1, line2, line3, rowLine}
+use Rattle.reader.specs.Grammar.{Place, noLine, line1, line2, line3, rowLine, ninthRow}
 use Rattle.reader.specs.Grammar.{Answered, taken, turned}
 use Rattle.reader.specs.File.{Rows, good, bad}
 use Rattle.reader.specs.File.{behindRow, rowOf, rowsFrom, rowsReading, rowsAnswer}
 use Rattle.reader.specs.File.{refusedFile, bodyAnswer, fileAnswer, readAnswer}
 
+-- A number within two bounds.
+abbrev Within : ℕ → ℕ → ℕ → Type 0
+Within a b m = (a ≤ m) × (m ≤ b)
+
 -- The numbers of a row.
 module _ (names : List Name) (n : ℕ) where
   field-number : (k : ℕ) (xs : List ℕ) → (faultOf (fieldOf names n k xs) ≡ 0 → ⊥)
-      → (11 ≤ faultOf (fieldOf names n k xs)) × (faultOf (fieldOf names n k xs) ≤ 14)
+      → Within 11 14 (faultOf (fieldOf names n k xs))
   unfolding fieldOf
   field-number k xs = go (isBound k)
     where
       bound : (b : Bound) → (faultOf (ticksField b) ≡ 0 → ⊥)
-          → (11 ≤ faultOf (ticksField b)) × (faultOf (ticksField b) ≤ 14)
+          → Within 11 14 (faultOf (ticksField b))
       bound (Ticks v) h = absurd (h refl)
       bound Wrong h = (omega arith, omega arith)
 
       condition : (j : Judged) → judge names n xs ≡ j → (faultOf (judgedField j) ≡ 0 → ⊥)
-          → (11 ≤ faultOf (judgedField j)) × (faultOf (judgedField j) ≤ 14)
+          → Within 11 14 (faultOf (judgedField j))
       condition (Letters v) e h = absurd (h refl)
       condition (NoCondition m) e h = among (judge-number names n xs m e)
         where
-          among : (m ≡ 11) ⊎ ((m ≡ 12) ⊎ (m ≡ 13)) → (11 ≤ m) × (m ≤ 14)
+          among : (m ≡ 11) ⊎ ((m ≡ 12) ⊎ (m ≡ 13)) → Within 11 14 m
           among (inl z) = (omega arith, omega arith)
           among (inr (inl z)) = (omega arith, omega arith)
           among (inr (inr z)) = (omega arith, omega arith)
 
       go : (b : Bool) → (faultOf (cond b (ticksField (boundOf xs)) (judgedField (judge names n xs)))
           ≡ 0 → ⊥)
-          → (11 ≤ faultOf (cond b (ticksField (boundOf xs)) (judgedField (judge names n xs))))
-          × (faultOf (cond b (ticksField (boundOf xs)) (judgedField (judge names n xs))) ≤ 14)
+          → Within 11 14 (faultOf (cond b (ticksField (boundOf xs))
+          (judgedField (judge names n xs))))
       go true = bound (boundOf xs)
       go false = condition (judge names n xs) refl
 
   fields-number : (k : ℕ) (pieces : List (List ℕ))
       → let f = firstFault (fieldsOf names n k pieces) in
-      (f ≡ 0 → ⊥) → (11 ≤ f) × (f ≤ 14)
+      (f ≡ 0 → ⊥) → Within 11 14 f
   unfolding fieldsOf firstFault
   fields-number k [] = λ h. absurd (h refl)
   fields-number k (xs ∷ pieces) =
@@ -78,14 +82,14 @@ module _ (names : List Name) (n : ℕ) where
     where
       go : (b : Bool) → eqb (faultOf (fieldOf names n k xs)) 0 ≡ b
           → let later = firstFault (fieldsOf names n (k + 1) pieces) in
-          ((later ≡ 0 → ⊥) → (11 ≤ later) × (later ≤ 14))
+          ((later ≡ 0 → ⊥) → Within 11 14 later)
           → let f = cond b later (faultOf (fieldOf names n k xs)) in
-          (f ≡ 0 → ⊥) → (11 ≤ f) × (f ≤ 14)
+          (f ≡ 0 → ⊥) → Within 11 14 f
       go true e ih = ih
       go false e ih = field-number k xs
 
   row-number : (line : List ℕ) → (rowAnswer names n line .number ≡ 0 → ⊥)
-      → (10 ≤ rowAnswer names n line .number) × (rowAnswer names n line .number ≤ 15)
+      → Within 10 15 (rowAnswer names n line .number)
   unfolding rowAnswer rowFields
   row-number line = go (isRule line) (eqb (firstFault fields) 0) refl
       (ordered (boundsFrom (map valueOf fields)))
@@ -105,7 +109,7 @@ module _ (names : List Name) (n : ℕ) where
       go : (t u : Bool) → eqb (firstFault fields) 0 ≡ u → (o : Bool)
           → let r = cond t (cond u (cond o passing (rowRefused 15))
           (rowRefused (firstFault fields))) (rowRefused 10) in
-          (r .number ≡ 0 → ⊥) → (10 ≤ r .number) × (r .number ≤ 15)
+          (r .number ≡ 0 → ⊥) → Within 10 15 (r .number)
       go false u e o h = (omega arith, omega arith)
       go true false e o h = let f = fields-number 0 (split comma (drop 5 line)) h in
           (omega (arith, f .0), omega (arith, f .1))
@@ -152,12 +156,13 @@ module _ (names : List Name) (signals : ℕ) where
           (bad 9 (i + 3))
           ≡ bad number line → Place number line
       go false f u g rest ih e =
-          placed 9 (i + 3) (rowLine i low (omega arith) (omega arith)) number line e
+          let last : mostRows ≡ i = omega (arith, ltb-false i mostRows f) in
+          placed 9 (i + 3) (subst (λ (k : ℕ). Place 9 (k + 3)) last ninthRow) number line e
       go true f false g rest ih e =
           let m = row-number (take signals names) (width signals) xs (eqb-false (read .number) 0 g)
           in
-          placed (read .number) (i + 3) (rowLine i low (omega (arith, m .0)) (omega (arith, m .1)))
-          number line e
+          let placed-row = rowLine i (ltb-true i mostRows f) (m .0) (m .1) in
+          placed (read .number) (i + 3) placed-row number line e
       go true f true g (good rows) ih e = absurd (good-not-bad (rowOf read ∷ rows) number line e)
       go true f true g (bad m l) ih e = ih (omega (arith, ltb-true i mostRows f)) number line e
 
@@ -177,7 +182,7 @@ module _ (names : List Name) (signals : ℕ) where
 
 -- Line 2.
 words-number : (words : List (List ℕ)) → (signalsNumber words ≡ 0 → ⊥)
-    → (6 ≤ signalsNumber words) × (signalsNumber words ≤ 8)
+    → Within 6 8 (signalsNumber words)
 unfolding signalsNumber
 words-number [] h = (omega arith, omega arith)
 words-number (word ∷ names) h =
@@ -185,14 +190,14 @@ words-number (word ∷ names) h =
     (leb (length names) mostSignals) (allDistinct (map nameOf names)) h
   where
     go : (t u d : Bool) → let m : ℕ = cond t (cond u (cond d 0 8) 7) 6 in
-        (m ≡ 0 → ⊥) → (6 ≤ m) × (m ≤ 8)
+        (m ≡ 0 → ⊥) → Within 6 8 m
     go false u d h = (omega arith, omega arith)
     go true false d h = (omega arith, omega arith)
     go true true false h = (omega arith, omega arith)
     go true true true h = absurd (h refl)
 
 signals-number : (words : List (List ℕ)) → (signalsAnswer words .number ≡ 0 → ⊥)
-    → (6 ≤ signalsAnswer words .number) × (signalsAnswer words .number ≤ 8)
+    → Within 6 8 (signalsAnswer words .number)
 unfolding signalsAnswer
 signals-number words h = go (eqb (signalsNumber words) 0) h
   where
@@ -206,7 +211,7 @@ signals-number words h = go (eqb (signalsNumber words) 0) h
         }
 
     go : (t : Bool) → let r = cond t read (signalsRefused (signalsNumber words)) in
-        (r .number ≡ 0 → ⊥) → (6 ≤ r .number) × (r .number ≤ 8)
+        (r .number ≡ 0 → ⊥) → Within 6 8 (r .number)
     go true h = absurd (h refl)
     go false h = words-number words h
 
@@ -228,13 +233,13 @@ body-answered (line ∷ rules) = go (eqb (read .number) 0) refl
 
 -- Line 1.
 header-number : (line : List ℕ) → (headerNumber line ≡ 0 → ⊥)
-    → (4 ≤ headerNumber line) × (headerNumber line ≤ 5)
+    → Within 4 5 (headerNumber line)
 unfolding headerNumber
 header-number line h =
     go (eqb (length line) 8 && sameBytes (take 4 line) PNP && every isDigit16 (drop 4 line))
     (sameBytes (drop 4 line) version1) h
   where
-    go : (t u : Bool) → let m : ℕ = cond t (cond u 0 5) 4 in (m ≡ 0 → ⊥) → (4 ≤ m) × (m ≤ 5)
+    go : (t u : Bool) → let m : ℕ = cond t (cond u 0 5) 4 in (m ≡ 0 → ⊥) → Within 4 5 m
     go false u h = (omega arith, omega arith)
     go true false h = (omega arith, omega arith)
     go true true h = absurd (h refl)

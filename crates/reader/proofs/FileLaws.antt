@@ -25,7 +25,8 @@ use Rattle.reader.specs.declared.row.RowRead.{RowRead}
 use Rattle.reader.specs.Lines.{LF, prefixed, lines}
 use Rattle.reader.specs.Row.{rowFrom, rowAnswer}
 use Rattle.reader.specs.File.{noRule, Rows, good, bad, behindRow, rowOf, rowsFrom}
-use Rattle.reader.specs.File.{rowsReading, rowsAnswer, refusedFile, tableFrom, gathered}
+use Rattle.reader.specs.File.{rowsReading, rowsAnswer, refusedFile, tableFrom}
+use Rattle.reader.specs.Gathering.{gathered}
 use Rattle.reader.specs.File.{behindSignals, bodyAnswer, fileAnswer, readAnswer}
 use Rattle.reader.specs.Header.{headerNumber, signalsAnswer}
 
@@ -208,7 +209,8 @@ module _ (names : List Name) (signals : ℕ) (rest : List ℕ) where
             rw (o, before, free, map-append f reads (read ∷ []))
             (added-few (map f reads) noSets (f read) n mostRows (length-map reads f ∙ g .many) k)
 
-    pub gathering-step : at < length rest → n < mostRows → (row : RowRead) → row ≡ read → (size : ℕ)
+    pub gathering-step : at < length rest → n < mostRows → (row : RowRead) → row ≡ read
+        → (size : ℕ)
         → size ≡ length line
         → row .number ≡ 0
         → Gathering (reads ++ (row ∷ [])) (set sets n (row .sets)) (set bounds n (row .bounds))
@@ -377,7 +379,8 @@ module _ (rest : List ℕ) where
         )
 
     pub file-refused : getD rest (length rest - 1) 0 ≡ LF → (number : ℕ)
-        → number ≡ headerNumber first → (number ≡ 0 → ⊥) → readAnswer rest ≡ refusedFile number 1
+        → number ≡ headerNumber first → (number ≡ 0 → ⊥)
+        → readAnswer rest ≡ refusedFile number 1
     file-refused same number e other =
         read-lines same ∙ file-first h ∙ rw (sym e, ne-eqb number 0 other)
 

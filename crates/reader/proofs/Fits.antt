@@ -26,6 +26,7 @@ use Rattle.conditions.proofs.Places.{nameOf-fits}
 use Rattle.reader.specs.Header.{isName, noName, namesFrom}
 use Rattle.reader.specs.File.{noRule}
 use Rattle.reader.specs.Grammar.{Each, none, and, IsCondition, IsRow, IsFile}
+use Rattle.reader.proofs.Accepted.{names-taken}
 
 -- Places that are not used.
 every-same : {A : Type 0} (test : A → Bool) (x : A) → test x ≡ true → (k : ℕ)
@@ -112,7 +113,7 @@ module _ (bytes : List ℕ) (t : Table) (f : IsFile bytes t) where
   names-are-fit =
       let free = replicate (mostSignals - s) noName in
       rw (
-        take-at known free s (length-map (f .names) nameOf),
+        names-taken (f .names),
         drop-at known free s
             (length-map (f .names) nameOf),
         names-fit (f .names) (f .names-are),

@@ -79,7 +79,8 @@ module _ (w : List ℕ) where
   unfolding isName
   name-other h = rw (h, and-false (leb 1 (length w) && leb (length w) 8))
 
-  pub name-is : (length w ≡ 0 → ⊥) → length w ≤ 8 → every isLetter w ≡ true → isName w ≡ true
+  pub name-is : (length w ≡ 0 → ⊥) → length w ≤ 8 → every isLetter w ≡ true
+      → isName w ≡ true
   unfolding isName
   name-is some few h = rw (le-leb 1 (length w) (omega arith), le-leb (length w) 8 few, h)
 

@@ -63,7 +63,8 @@ joined-free b c e piece (next ∷ more) (and h f) =
     count-append c piece (b ∷ joined b next more) ∙ rw (h, e, rest)
 
 -- Lines.
-lines-append : (line ys : List ℕ) → count LF line ≡ 0 → lines (line ++ LF ∷ ys) ≡ line ∷ lines ys
+lines-append : (line ys : List ℕ) → count LF line ≡ 0
+    → lines (line ++ LF ∷ ys) ≡ line ∷ lines ys
 lines-append line ys h =
     let some : 0 < length (line ++ LF ∷ ys) = rw length-append (omega arith) in
     lines-cons (line ++ LF ∷ ys) some

@@ -1,11 +1,10 @@
--- `Parts`: parts of a slice. `HeaderLaws`, `SignalLaws`, `RowLaws`, `FileLaws`: what the functions of
--- lines 1 and 2, of a row and of the file cite. `Joins`, `Rules`, `Accepted`: the accepted files are
--- those of the grammar. `Answers`: each file has one answer, at its place. `Fits`: number 17 lets
--- each table by.
+-- `Parts`: parts of a slice. `HeaderLaws`, `SignalLaws`, `RowLaws`, `FileLaws`: what the functions
+-- of lines 1 and 2, of a row and of the file cite. `Joins`, `Rules`, `Accepted`: the accepted files
+-- are those of the grammar. `Answers`: each file has one answer, at its place. `Fits`: number 17
+-- lets each table by.
 pub mod Parts
 pub mod HeaderLaws
 pub mod SignalLaws
-pub mod JudgeSome
 pub mod RowLaws
 pub mod FileLaws
 pub mod Joins

@@ -30,8 +30,9 @@ use Rattle.reader.specs.declared.row.Field.the-variants.{Value, Refused}
 use Rattle.reader.specs.declared.row.Values.{Values}
 use Rattle.reader.specs.Row.{isBound, ticksField, judgedField, fieldOf, fieldsOf}
 use Rattle.reader.specs.Row.{firstFault, valueOf, setsFrom, boundsFrom, ordered, rowRead}
-use Rattle.reader.specs.Row.{rowRefused, valuesAnswer, ruleWord, rowFields}
-use Rattle.reader.proofs.JudgeSome.{judge-some}
+use Rattle.reader.specs.Row.{rowRefused, ruleWord, rowFields}
+use Rattle.reader.specs.Gathering.{valuesAnswer}
+use Rattle.conditions.proofs.Judging.{judge-some}
 
 -- A field that is turned down has a number.
 ticks-fault : (b : Bound) (m : ℕ) → ticksField b ≡ Refused m → (m ≡ 0 → ⊥)
@@ -48,7 +49,8 @@ ticks-small (Ticks t) small = small t refl
 ticks-small Wrong small = omega arith
 
 module _ (names : List Name) (n : ℕ) where
-  field-fault : (k : ℕ) (xs : List ℕ) (m : ℕ) → fieldOf names n k xs ≡ Refused m → (m ≡ 0 → ⊥)
+  field-fault : (k : ℕ) (xs : List ℕ) (m : ℕ) → fieldOf names n k xs ≡ Refused m
+      → (m ≡ 0 → ⊥)
   unfolding fieldOf
   field-fault k xs m = go (isBound k)
     where

@@ -37,7 +37,7 @@ use Rattle.reader.specs.Row.{valueOf, setsFrom, boundsFrom, rowFrom, ord
 use Rattle.reader.specs.Row.{rowRefused, rowFields, rowAnswer}
 use Rattle.reader.specs.File.{rowOf}
 use Rattle.reader.specs.Grammar.{joined, Each, none, and, IsCondition, IsRow}
-use Rattle.reader.proofs.JudgeSome.{judge-some}
+use Rattle.conditions.proofs.Judging.{judge-some}
 use Rattle.reader.proofs.RowLaws.{rule-commas}
 use Rattle.reader.proofs.Joins.{Free, none as no-piece, and as and-piece, split-joined}
 use Rattle.reader.proofs.Joins.{rejoined, joined-split, joined-free, passing-free}
@@ -84,7 +84,8 @@ module _ (names : List Name) (n : ℕ) where
   bound-free b e v = passing-free (within 48 57) b e (decimal v) (decimal-within v)
 
   -- What a field holds.
-  condition-value : (k : ℕ) → isBound k ≡ false → {xs : List ℕ} {v : ℕ} → IsCondition names n xs v
+  condition-value : (k : ℕ) → isBound k ≡ false → {xs : List ℕ} {v : ℕ}
+      → IsCondition names n xs v
       → fieldOf names n k xs ≡ Value v
   unfolding fieldOf
   condition-value k e {xs} {v} h =
@@ -106,6 +107,9 @@ module _ (names : List Name) (n : ℕ) where
       rw (commas, e)
 
   module _ (line : List ℕ) (row : Row) (r : IsRow names n line row) where
+    abbrev texts : List (List ℕ)
+    texts = r .tse ∷ r .tc ∷ r .tee ∷ r .ase ∷ r .ac ∷ r .aee ∷ []
+
     abbrev others : List (List ℕ)
     others =
         r .tc ∷ r .tee ∷ decimal (row .tmin) ∷ decimal (row .tmax) ∷ decimal (row .lmin)
@@ -117,8 +121,7 @@ module _ (names : List Name) (n : ℕ) where
     pieces-free b e d = go (row .sets) (r .conditions)
       where
         go : (sets : List ℕ)
-            → Each (IsCondition names n) (r .tse ∷ r .tc ∷ r .tee ∷ r .ase ∷ r .ac ∷ r .aee ∷ [])
-            sets
+            → Each (IsCondition names n) texts sets
             → Free b (r .tse ∷ others)
         go sets (and h₀ (and h₁ (and h₂ (and h₃ (and h₄ (and h₅ none)))))) =
             and-piece (condition-free b e h₀)
@@ -153,7 +156,7 @@ module _ (names : List Name) (n : ℕ) where
         ∷ getD sets 3 0 ∷ getD sets 4 0 ∷ getD sets 5 0 ∷ row .amin ∷ row .amax ∷ []
 
     fields-read : (sets : List ℕ)
-        → Each (IsCondition names n) (r .tse ∷ r .tc ∷ r .tee ∷ r .ase ∷ r .ac ∷ r .aee ∷ []) sets
+        → Each (IsCondition names n) texts sets
         → fieldsOf names n 0 (r .tse ∷ others) ≡ map Value (valuesOf sets)
     unfolding fieldsOf
     fields-read sets (and h₀ (and h₁ (and h₂ (and h₃ (and h₄ (and h₅ none)))))) =
@@ -171,7 +174,7 @@ module _ (names : List Name) (n : ℕ) where
         (ap₂ _∷_ (bound-value 11 refl (row .amax) (r .a-fits)) refl)))))))))))
 
     row-passes : (sets : List ℕ)
-        → Each (IsCondition names n) (r .tse ∷ r .tc ∷ r .tee ∷ r .ase ∷ r .ac ∷ r .aee ∷ []) sets
+        → Each (IsCondition names n) texts sets
         → rowFields (map Value (valuesOf sets))
         ≡ record { number = 0; sets = sets; bounds = bounds }
     unfolding rowFields firstFault
@@ -193,8 +196,7 @@ module _ (names : List Name) (n : ℕ) where
         ∙ go (row .sets) (r .conditions)
       where
         go : (sets : List ℕ)
-            → Each (IsCondition names n) (r .tse ∷ r .tc ∷ r .tee ∷ r .ase ∷ r .ac ∷ r .aee ∷ [])
-            sets
+            → Each (IsCondition names n) texts sets
             → rowFields (fieldsOf names n 0 (r .tse ∷ others))
             ≡ record { number = 0; sets = sets; bounds = bounds }
         go sets h = ap rowFields (fields-read sets h) ∙ row-passes sets h

@@ -3,26 +3,26 @@ use Prim.Native.Nat.{ℕ, zero, suc, _+_, _-_, _<_, _≤_}
 use native.Mathlib.Decide.{decLe, decLt}
 use native.Mathlib.Numerals.{add-one}
 use native.Mathlib.Omega.{arith}
-use mathlib.Core.Bool.{Bool, true, false, _&&_, cond, and-false}
+use mathlib.Core.Bool.{true, false, _&&_, cond, and-false}
 use mathlib.Core.List.{List, [], _∷_, _++_, map, map-append, append-assoc, append-nil}
-use mathlib.Core.Path.{_≡_, refl, sym, ap, ap₂, subst, _∙_}
+use mathlib.Core.Path.{_≡_, refl, sym, ap, ap₂, _∙_}
 use borrow.Author.Tests.{le-leb, lt-leb, lt-ltb, le-ltb}
-use lib.Dec.{leb, ltb, eqb, eqb·suc-zero}
-use lib.ListN.{length, getD, take, drop, set, replicate, length-append, length-drop, length-map}
-use lib.ListN.{length-take, length-replicate, drop-of-length-le}
-use lib.Seq.{drop-cons, drop-drop, drop-length, take-all, take-append-le, set-at, take-append-add}
+use lib.Dec.{leb, ltb, eqb·suc-zero}
+use lib.ListN.{length, take, drop, set, replicate, length-append, length-map}
+use lib.ListN.{drop-of-length-le}
+use lib.Seq.{drop-cons, drop-drop, drop-length, take-append-le, set-at, take-append-add}
 use lib.Seq.{drop-append-seam, append-snoc, take-at}
 use Rattle.letters.specs.Lists.{every, sameBytes}
-use Rattle.letters.proofs.Lists.{every-append, sameBytes-true, sameBytes-refl}
+use Rattle.letters.proofs.Lists.{every-append, sameBytes-refl}
 use Rattle.table.specs.Limits.{mostSignals}
 use Rattle.table.specs.Name.{allDistinct}
 use Rattle.table.specs.declared.Name.{Name}
 use Rattle.text.specs.Split.{count, split, front, behind}
-use Rattle.text.proofs.Splits.{front-whole, split-front, split-cons, front-behind, front-length}
+use Rattle.text.proofs.Splits.{front-whole, split-front, split-cons, front-behind}
 use Rattle.conditions.specs.Condition.{nameOf}
-use Rattle.reader.specs.declared.header.Signals.{Signals}
 use Rattle.reader.specs.Header.{signalsWord, isName, noName, namesFrom, signalsNumber}
-use Rattle.reader.specs.Header.{wordsBehind, signalsRefused, signalsAnswer, nameAdded}
+use Rattle.reader.specs.Header.{signalsRefused, signalsAnswer}
+use Rattle.reader.specs.Gathering.{nameAdded}
 
 -- The words behind a word that has ended: nothing is left, or a separator and words.
 unfoldable pub wordsAfter : ℕ → List ℕ → List (List ℕ)

@@ -1,7 +1,7 @@
 -- Which number and line each file gets, and which table.
-use Prim.Native.Nat.{ℕ, zero, suc, _+_, _-_}
-use mathlib.Core.Bool.{Bool, cond}
-use mathlib.Core.List.{List, [], _∷_, _++_, map}
+use Prim.Native.Nat.{ℕ, _+_, _-_}
+use mathlib.Core.Bool.{cond}
+use mathlib.Core.List.{List, [], _∷_, _++_}
 use lib.Dec.{ltb, eqb}
 use lib.ListN.{length, getD, take, replicate}
 use Rattle.letters.specs.Letter.{width}
@@ -97,9 +97,3 @@ readAnswer bytes =
     cond (eqb (length bytes) 0) (refusedFile 1 0)
     (cond (ltb 4096 (length bytes)) (refusedFile 2 0)
     (cond (eqb (getD bytes (length bytes - 1) 0) LF) (fileAnswer (lines bytes)) (refusedFile 3 0)))
-
--- The rows as the code gathers them: of arrays of sets and of bounds, place by place.
-unfoldable pub gathered : List (List ℕ) → List (List ℕ) → List Row
-gathered [] bounds = []
-gathered (sets ∷ more) [] = []
-gathered (sets ∷ more) (bounds ∷ rest) = rowFrom sets bounds ∷ gathered more rest

@@ -1,5 +1,5 @@
 -- The accepted files, written out from their parts; and the places of refusals.
-use Prim.Native.Nat.{ℕ, _+_, _≤_}
+use Prim.Native.Nat.{ℕ, _+_, _<_, _≤_}
 use mathlib.Core.Bool.{true, false}
 use mathlib.Core.List.{List, [], _∷_, _++_, map}
 use mathlib.Core.Path.{_≡_}
@@ -86,8 +86,9 @@ pub data Place : ℕ → ℕ → Type 0 where
   line1 : {number : ℕ} → 4 ≤ number → number ≤ 5 → Place number 1
   line2 : {number : ℕ} → 6 ≤ number → number ≤ 8 → Place number 2
   line3 : Place 16 3
-  rowLine : {number : ℕ} (i : ℕ) → i ≤ mostRows → 9 ≤ number → number ≤ 15
+  rowLine : {number : ℕ} (i : ℕ) → i < mostRows → 10 ≤ number → number ≤ 15
       → Place number (i + 3)
+  ninthRow : Place 9 (mostRows + 3)
 
 -- A file is accepted with its table, or refused at a place, with an empty table.
 abbrev pub accepted : Table → Reading

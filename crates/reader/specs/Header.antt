@@ -2,8 +2,8 @@
 use Prim.Native.Nat.{ℕ, _-_}
 use mathlib.Core.Bool.{Bool, _&&_, _||_, cond}
 use mathlib.Core.List.{List, [], _∷_, _++_, map}
-use lib.Dec.{leb, ltb, eqb}
-use lib.ListN.{length, take, drop, set, replicate}
+use lib.Dec.{leb, eqb}
+use lib.ListN.{length, take, drop, replicate}
 use Rattle.letters.specs.Lists.{every, sameBytes}
 use Rattle.table.specs.Limits.{mostSignals}
 use Rattle.table.specs.Name.{isLetter, allDistinct}
@@ -63,7 +63,3 @@ signalsAnswer words = cond (eqb (signalsNumber words) 0) (record {
   count = length (wordsBehind words);
   names = namesFrom (wordsBehind words);
 }) (signalsRefused (signalsNumber words))
-
--- The names with one more at place n, as the code gathers them.
-unfoldable pub nameAdded : List Name → ℕ → Name → List Name
-nameAdded names n name = cond (ltb n mostSignals) (set names n name) names

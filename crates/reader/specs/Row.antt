@@ -1,13 +1,12 @@
 -- One row's line: "`rule `, then twelve fields with eleven commas between them".
-use Prim.Native.Nat.{ℕ, suc, _+_}
+use Prim.Native.Nat.{ℕ, _+_}
 use mathlib.Core.Bool.{Bool, _&&_, _||_, cond}
 use mathlib.Core.List.{List, [], _∷_, map}
-use lib.Dec.{leb, ltb, eqb}
-use lib.ListN.{getD, take, drop, replicate}
-use Rattle.letters.specs.Lists.{sameBytes}
+use lib.Dec.{leb, eqb}
+use lib.ListN.{getD, drop, replicate}
 use Rattle.table.specs.declared.Name.{Name}
 use Rattle.table.specs.declared.Row.{Row}
-use Rattle.text.specs.Split.{count, split}
+use Rattle.text.specs.Split.{startsWith, count, split}
 use Rattle.text.specs.Bounds.{boundOf}
 use Rattle.text.specs.declared.Bound.{Bound}
 use Rattle.text.specs.declared.Bound.the-variants.{Value as Ticks, Wrong}
@@ -17,7 +16,6 @@ use Rattle.conditions.specs.declared.Judged.the-variants.{Letters, Refused as N
 use Rattle.reader.specs.declared.row.Field.{Field}
 use Rattle.reader.specs.declared.row.Field.the-variants.{Value, Refused}
 use Rattle.reader.specs.declared.row.RowRead.{RowRead}
-use Rattle.reader.specs.declared.row.Values.{Values}
 
 abbrev pub comma : ℕ
 comma = 44
@@ -98,21 +96,17 @@ rowRead v =
     cond (ordered (boundsFrom v)) (record { number = 0; sets = setsFrom v; bounds = boundsFrom v })
     (rowRefused 15)
 
--- The values, as the code gathers them.
-unfoldable pub valuesAnswer : List Field → Values
-valuesAnswer fields = cond (eqb (firstFault fields) 0)
-    (record { number = 0; values = map valueOf fields })
-    (record { number = firstFault fields; values = replicate 12 0 })
-
 -- "On a row: .. 10, then the fields from the left (11, 12, 13 over the whole condition, or 14),
 -- then 15 for T, L, A."
 abbrev pub isRule : List ℕ → Bool
-isRule line = sameBytes (take 5 line) ruleWord && eqb (count comma line) 11
+isRule line = startsWith ruleWord line && eqb (count comma line) 11
 
 unfoldable pub rowFields : List Field → RowRead
 rowFields fields =
     cond (eqb (firstFault fields) 0) (rowRead (map valueOf fields)) (rowRefused (firstFault fields))
 
+abbrev pub lineFields : List Name → ℕ → List ℕ → List Field
+lineFields names n line = fieldsOf names n 0 (split comma (drop 5 line))
+
 unfoldable pub rowAnswer : List Name → ℕ → List ℕ → RowRead
-rowAnswer names n line =
-    cond (isRule line) (rowFields (fieldsOf names n 0 (split comma (drop 5 line)))) (rowRefused 10)
+rowAnswer names n line = cond (isRule line) (rowFields (lineFields names n line)) (rowRefused 10)

@@ -6,7 +6,8 @@ ghost use mathlib.Core.Path.{_≡_};
 ghost use lib.ListN.{length, take, drop};
 ghost use Rattle.conditions.specs.Condition.{nameOf};
 ghost use Rattle.text.specs.Split.{split};
-ghost use Rattle.reader.specs.Header.{isDigit16, headerNumber, isName, nameAdded};
+ghost use Rattle.reader.specs.Header.{isDigit16, headerNumber, isName};
+ghost use Rattle.reader.specs.Gathering.{nameAdded};
 ghost use Rattle.reader.specs.Header.{signalsRefused, signalsAnswer};
 
 // Line 2: its number, or 0; and the names, of which the first `count` are used. Under a number all

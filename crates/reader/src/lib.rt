@@ -19,7 +19,8 @@ ghost use Prim.Native.Nat.{_+_, min};
 ghost use lib.ListN.{length};
 ghost use Rattle.reader.specs.Row.{rowFrom};
 ghost use Rattle.reader.specs.Lines.{lines};
-ghost use Rattle.reader.specs.File.{emptyTable, refusedFile, gathered, tableFrom, rowsAnswer};
+ghost use Rattle.reader.specs.File.{emptyTable, refusedFile, tableFrom, rowsAnswer};
+ghost use Rattle.reader.specs.Gathering.{gathered};
 ghost use Rattle.reader.specs.File.{bodyAnswer, readAnswer};
 
 pub const MOST_BYTES: usize = 4096;

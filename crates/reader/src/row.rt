@@ -14,7 +14,8 @@ ghost use Rattle.letters.specs.Lists.{every};
 ghost use Rattle.letters.specs.Letter.{width};
 ghost use Rattle.text.specs.Split.{count, split, front};
 ghost use Rattle.reader.specs.Row.{rowFrom, isBound, boundField, conditionField, fieldOf};
-ghost use Rattle.reader.specs.Row.{faultOf, fieldsOf, valuesAnswer, boundsFrom, rowRead};
+ghost use Rattle.reader.specs.Row.{faultOf, lineFields, boundsFrom, rowRead};
+ghost use Rattle.reader.specs.Gathering.{valuesAnswer};
 ghost use Rattle.reader.specs.Row.{rowRefused};
 ghost use Rattle.reader.specs.Row.{rowAnswer};
 
@@ -77,7 +78,8 @@ fn condition_field(s: &[u8], names: [Name; MOST_SIGNALS], signals: u8) -> Field
 
 // Field k, which the rest of the line begins with: it ends at the next comma.
 fn read_field(rest: &[u8], k: usize, names: [Name; MOST_SIGNALS], signals: u8) -> Field
-    ensures { λ r. ⌜ r ≡ fieldOf (take signals names) (width signals) k (front 44 (now (rest .entry))) ⌝ }
+    ensures { λ r. ⌜ r ≡ fieldOf (take signals names) (width signals) k
+        (front 44 (now (rest .entry))) ⌝ }
 {
     let end = text::find(rest, b',');
     if is_bound(k) {
@@ -107,7 +109,8 @@ fn number_of(field: Field) -> u8
 // The fields after `rule `, each read on from its comma as the rest of the line.
 fn read_values(line: &[u8], names: [Name; MOST_SIGNALS], signals: u8) -> Values
     requires { ⌜ (5 ≤ length (now line)) × (count 44 (drop 5 (now line)) ≡ 11) ⌝ }
-    ensures { λ r. ⌜ r ≡ valuesAnswer (fieldsOf (take signals names) (width signals) 0 (split 44 (drop 5 (now (line .entry))))) ⌝ }
+    ensures { λ r. ⌜ r ≡ valuesAnswer
+        (lineFields (take signals names) (width signals) (now (line .entry))) ⌝ }
 {
     let mut values = [0u64; FIELDS];
     let mut at: usize = 5;

@@ -1,8 +1,14 @@
 -- Bytes cut at each place of a byte: lines at LF, fields at commas, words at spaces.
 use Prim.Native.Nat.{ℕ, suc}
-use mathlib.Core.Bool.{cond}
+use mathlib.Core.Bool.{Bool, cond}
 use mathlib.Core.List.{List, [], _∷_}
 use lib.Dec.{eqb}
+use lib.ListN.{length, take}
+use Rattle.letters.specs.Lists.{sameBytes}
+
+-- What the bytes begin with.
+abbrev pub startsWith : List ℕ → List ℕ → Bool
+startsWith word xs = sameBytes (take (length word) xs) word
 
 -- How often a byte stands in a list.
 unfoldable pub count : ℕ → List ℕ → ℕ

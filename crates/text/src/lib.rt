@@ -1,9 +1,8 @@
 // Bytes of a line: where one stands, how many there are, what it begins with; and bounds.
 // specs/Split.antt and specs/Bounds.antt say what is right.
 ghost use mathlib.Core.Path.{_≡_};
-ghost use lib.ListN.{length, take};
-ghost use Rattle.letters.specs.Lists.{sameBytes};
-ghost use Rattle.text.specs.Split.{front, count};
+ghost use lib.ListN.{length};
+ghost use Rattle.text.specs.Split.{startsWith, front, count};
 ghost use Rattle.text.specs.Bounds.{oneDigit, twoDigits, boundOf};
 
 // What a field for a bound holds.
@@ -43,7 +42,7 @@ pub fn count_of(s: &[u8], b: u8) -> usize
 
 // Whether the bytes begin with a word.
 pub fn starts_with(s: &[u8], word: &[u8]) -> bool
-    ensures { λ r. ⌜ r ≡ sameBytes (take (length (now (word .entry))) (now (s .entry))) (now (word .entry)) ⌝ }
+    ensures { λ r. ⌜ r ≡ startsWith (now (word .entry)) (now (s .entry)) ⌝ }
 {
     if s.len() < word.len() {
         return false;

@@ -9,7 +9,8 @@ use mathlib.Core.Logic._⊎_.{inl, inr}
 use mathlib.Core.Path.{_≡_, refl, sym, ap, subst, _∙_}
 
 -- what follows from its truth at all smaller numbers
-pub strong-induction : (P : ℕ → Type 0) → ((n : ℕ) → ((k : ℕ) → k < n → P k) → P n) → (n : ℕ) → P n
+pub strong-induction : (P : ℕ → Type 0) → ((n : ℕ) → ((k : ℕ) → k < n → P k) → P n)
+    → (n : ℕ) → P n
 strong-induction P f n = go (suc n) n (omega arith)
   where
     go : (b n : ℕ) → n < b → P n
@@ -17,7 +18,8 @@ strong-induction P f n = go (suc n) n (omega arith)
     go (suc b) n h = f n (λ k q. go b k (omega arith))
 
 -- a list from its front, one letter more at its end each time
-pub snoc-induction : (P : List ℕ → Type 0) → P [] → ((w : List ℕ) (l : ℕ) → P w → P (w ++ (l ∷ [])))
+pub snoc-induction : (P : List ℕ → Type 0) → P []
+    → ((w : List ℕ) (l : ℕ) → P w → P (w ++ (l ∷ [])))
     → (w : List ℕ) → P w
 snoc-induction P none more w = go w [] none
   where

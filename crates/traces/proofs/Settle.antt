@@ -147,7 +147,8 @@ module _ (X : System) (law : Lawful X) (n : ℕ) (state : ℕ → X .State) (x :
       (omega arith)
 
   -- exact and settled numbers are the computed ones, bounded by the count: so they are unique
-  pub numbers-computed : (lost : ℕ → ℕ) → Exact X n state lost → Settled X n state lost → (e : ℕ)
+  pub numbers-computed : (lost : ℕ → ℕ) → Exact X n state lost → Settled X n state lost
+      → (e : ℕ)
       → e < n
       → lost e ≡ lostWithin X n (state e)
   numbers-computed lost s t e h = go (ℕ-discrete (lost e) 0)

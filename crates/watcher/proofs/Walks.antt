@@ -129,7 +129,8 @@ module _ {M : Type 1} {𝓤 : URA M} {H : Heap 𝓤} {A : Atoms 𝓤} {K : Type 
       heard t (Φ r) (λ e. split t $ move t (1 ∷ []) $
       facts t R (Is R) (shows 𝓤 H A R) r (v ∷ []) (λ is. k r is e)))
 
-  module _ {E : Env 𝓤 H} {C : Calls 𝓤 H} {Λ : Loops 𝓤 H} {q : Post 𝓤 H} {f : Name} {xs : List Opd}
+  module _ {E : Env 𝓤 H} {C : Calls 𝓤 H} {Λ : Loops 𝓤 H} {q : Post 𝓤 H} {f : Name}
+      {xs : List Opd}
       {d : Place} {rest : Body} {ps : List (Slot 0)} {s : Slot 0} {ks : Kepts ps} where
     -- A call of a function of plain data and no lifetime: what it is passed is had for nothing and
     -- what it gives back is a fact. The operands are read with what it asks at the context's head.
@@ -148,7 +149,8 @@ module _ {M : Type 1} {𝓤 : URA M} {H : Heap 𝓤} {A : Atoms 𝓤} {K : Type 
     calls-plain t fm c known a vss are makes g asks Φ states os k =
         use0 W (raw (Meant 𝓤 H A (byValue ps s ks) c .pre ((tt, tt, tt, a, vss), g)))
         (via 𝓤 (sep 𝓤 (emp 𝓤) (emp 𝓤)) (emp∗ 𝓤 (emp 𝓤))
-        (mono∗ 𝓤 (via 𝓤 (sep 𝓤 (emp 𝓤) (emp 𝓤)) (emp∗ 𝓤 (emp 𝓤)) (monoR 𝓤 (emp 𝓤)
+        (mono∗ 𝓤 (via 𝓤 (sep 𝓤 (emp 𝓤) (emp 𝓤)) (emp∗ 𝓤 (emp 𝓤))
+        (monoR 𝓤 (emp 𝓤)
         (owns-make 𝓤 H A (typesAt ps tt) (Ises (typesAt ps tt)) makes a vss are))) asks)) $
         calls-at t fm (Meant 𝓤 H A (byValue ps s ks) c) known ((tt, tt, tt, a, vss), g) os (λ v.
         given-back t tt (byValue ps s ks) c ((tt, tt, tt, a, vss), g) v Φ states

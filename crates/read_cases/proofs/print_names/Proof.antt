@@ -1,5 +1,5 @@
--- `read_cases::print_names` is safe and ends. The invariant says nothing. The measure: how many names
--- are left. Assumes nothing but the contract of the C function `write`, which `io` calls.
+-- `read_cases::print_names` is safe and ends. The invariant says nothing. The measure: how many
+-- names are left. Assumes nothing but the contract of the C function `write`, which `io` calls.
 use Prim.Native.Nat.{_-_}
 use borrow.Author.Needs.{needs}
 use Rattle.read_cases.proofs.print_names.Statement.{statement}

@@ -94,7 +94,8 @@ parts r v is = LL.owed D.the-type D′.the-laws r (v ∷ []) is
 says-both : {M : Type 1} {𝓤 : URA M} {H : Heap 𝓤} {A : Atoms 𝓤} {K : Type 0} {W : Given 𝓤 H A}
     {Γ : List (Item 𝓤)} → K → {φ ψ : Type 0} {P : SProp 𝓤} → φ → ψ
     → Step K W Γ (prop P) Γ (prop (sep 𝓤 P (sep 𝓤 (fact 𝓤 φ) (fact 𝓤 ψ))))
-says-both {𝓤 = 𝓤} t {φ} {ψ} {P} a b = step (λ k. suffices t (sep 𝓤 (sep 𝓤 P (fact 𝓤 φ)) (fact 𝓤 ψ))
+says-both {𝓤 = 𝓤} t {φ} {ψ} {P} a b =
+    step (λ k. suffices t (sep 𝓤 (sep 𝓤 P (fact 𝓤 φ)) (fact 𝓤 ψ))
     (assoc∗ 𝓤 P (fact 𝓤 φ) (fact 𝓤 ψ)) $ says t b $ says t a $ k)
 
 module _ {M : Type 1} (𝓤 : URA M) (H : Heap 𝓤) (A : Atoms 𝓤) (at-mem : Memory → SProp 𝓤)
@@ -151,7 +152,8 @@ module _ {M : Type 1} (𝓤 : URA M) (H : Heap 𝓤) (A : Atoms 𝓤) (W : Given
   -- What is left at exit, where the answer is r: what the state's reference owns, and the tokens.
   abbrev Ends : Ticked → List (Item 𝓤)
   Ends r = ‵ (fobs γ′ (T.the-row .coded .code (r .watch)))
-      ∷ ‵ (fbor κ′ (Body (mem (T.the-row)) b′ o′ γ′)) ∷ ‵ (flft κ′ q′) ∷ ‵ (flft κ q) ∷ []
+      ∷ ‵ (fbor κ′ (Body (mem (T.the-row)) b′ o′ γ′)) ∷ ‵ (flft κ′ q′) ∷ ‵
+      (flft κ q) ∷ []
 
   -- The answer is what the contract says.
   exits : (r : Ticked) → r ≡ tickAnswer s ys w l → Is (O.the-row) (r .outcome) (mach-o r ∷ [])
@@ -169,15 +171,18 @@ module _ {M : Type 1} (𝓤 : URA M) (H : Heap 𝓤) (A : Atoms 𝓤) (W : Given
       _ is $ done !
 
   -- The whole body.
-  walk : (𝓣 : Tables 𝓤 H) → Triple 𝓤 (𝓣 .C #tick-rows) (Callee 𝓤 H A at-mem run) → s < 2 ^ 8
+  walk : (𝓣 : Tables 𝓤 H) → Triple 𝓤 (𝓣 .C #tick-rows) (Callee 𝓤 H A at-mem run)
+      → s < 2 ^ 8
       → Room (R.the-row) n → l < 2 ^ 8
       → ent 𝓤 (onEntry 𝓤 H A here.signature (κ, (κ′, tt)) (q, (q′, tt)) x at)
       (WpFn 𝓤 H (𝓣 .C) (𝓣 .Λ) code.function
       (vint w8 s ∷ sliceVal (b, o) n ∷ vptr b′ o′ ∷ vint w8 l ∷ []) Post)
   walk 𝓣 known gs gn gl =
       qed W ((‵ (flft κ q) ⊛ ‵ (flft κ′ q′) ⊛ ‵ ftrue) ∷ ‵ (owns (u8
-      ∷ ShrSlice (named 0) κ (R.the-row) ∷ MutRef (named 1) κ′ (T.the-row) ∷ u8 ∷ []) x at) ∷ []) ∵
-      enter ! (𝓣 .C) (𝓣 .Λ) code.function _ _ $ alloc1 ! (λ l₀. alloc1 ! (λ l₁. alloc1 ! (λ l₂.
+      ∷ ShrSlice (named 0) κ (R.the-row) ∷ MutRef (named 1) κ′ (T.the-row) ∷ u8 ∷ []) x at) ∷
+      []) ∵
+      enter ! (𝓣 .C) (𝓣 .Λ) code.function _ _ $ alloc1 !
+      (λ l₀. alloc1 ! (λ l₁. alloc1 ! (λ l₂.
       alloc1 ! (λ l₃. alloc1 ! (λ l₄. alloc1 ! (λ l₅. alloc1 ! (λ l₆. alloc0 ! $ params1 ! $
       pass1 ! (init ! 10 refl (tt, record { fits = gs })) $
       pass1 ! (init ! 8 refl (tt, (tt, (record { fits = gn .0 }, tt)))) $
@@ -267,8 +272,10 @@ module _ {M : Type 1} (𝓤 : URA M) (H : Heap 𝓤) (A : Atoms 𝓤) (W : Given
 pub tick-spec : {M : Type 1} → stated.statement M
 unfolding code.routine tablesOf
 tick-spec 𝓤 H 𝓜 𝓖 𝓡 =
-    entered 𝓤 H _ (tables 𝓤 H 𝓜 𝓡 code.env .C) (tables 𝓤 H 𝓜 𝓡 code.env .Λ) #tick code.function
-    (code.unfolded 𝓤 H 𝓜 𝓡) (meets 𝓤 H (𝓖 .A) (givenOf 𝓤 H 𝓜 𝓖) (𝓜 .mem) (𝓡 .run)
+    entered 𝓤 H _ (tables 𝓤 H 𝓜 𝓡 code.env .C) (tables 𝓤 H 𝓜 𝓡 code.env .Λ) #tick
+    code.function
+    (code.unfolded 𝓤 H 𝓜 𝓡) (meets 𝓤 H (𝓖 .A) (givenOf 𝓤 H 𝓜 𝓖) (𝓜 .mem)
+    (𝓡 .run)
     (tablesOf 𝓤 H 𝓜 (tables 𝓤 H 𝓜 𝓡 code.env))
     (cited 𝓤 H _ 𝓜 𝓡 code.env #tick-rows rows-def.routine code.calls-watcher·tick-rows
     (rows-thm.met 𝓤 H 𝓜 𝓖 𝓡)))

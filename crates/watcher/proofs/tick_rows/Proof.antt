@@ -171,8 +171,10 @@ module _ {M : Type 1} (𝓤 : URA M) (H : Heap 𝓤) (A : Atoms 𝓤) (W : Given
     Λ = 𝓣 .Λ
 
     abbrev En : Env 𝓤 H
-    En = (ty 0, l₀) ∷ (ty 1, l₁) ∷ (ty 2, l₂) ∷ (ty 3, l₃) ∷ (ty 4, l₄) ∷ (ty 5, l₅) ∷ (ty 6, l₆)
-        ∷ (ty 7, l₇) ∷ (ty 8, l₈) ∷ (ty 9, l₉) ∷ (ty 10, l₁₀) ∷ (ty 11, l₁₁) ∷ (ty 12, l₁₂) ∷ []
+    En = (ty 0, l₀) ∷ (ty 1, l₁) ∷ (ty 2, l₂) ∷ (ty 3, l₃) ∷ (ty 4, l₄) ∷ (ty 5, l₅) ∷
+        (ty 6, l₆)
+        ∷ (ty 7, l₇) ∷ (ty 8, l₈) ∷ (ty 9, l₉) ∷ (ty 10, l₁₀) ∷ (ty 11, l₁₁) ∷
+        (ty 12, l₁₂) ∷ []
 
     -- Local k, which lies at a: it has a value, there is room for one, and it dies.
     abbrev has : ℕ → ℕ → Val → Item 𝓤
@@ -189,9 +191,12 @@ module _ {M : Type 1} (𝓤 : URA M) (H : Heap 𝓤) (A : Atoms 𝓤) (W : Given
     abbrev At : Turn s ys w l → List (Item 𝓤)
     At t = room 0 l₀ ∷ has 1 l₁ (vint w8 s) ∷ has 2 l₂ (sliceVal (b, o) n) ∷ has 3 l₃ mach-w
         ∷ has 4 l₄ (vint w8 l) ∷ has 5 l₅ (t .value) ∷ has 6 l₆ (vint w64 (t .at)) ∷ room 7 l₇
-        ∷ room 8 l₈ ∷ room 9 l₉ ∷ room 10 l₁₀ ∷ room 11 l₁₁ ∷ room 12 l₁₂ ∷ ‵ Own ∷ ‵ (flft κ q)
-        ∷ dies 0 l₀ ∷ dies 1 l₁ ∷ dies 2 l₂ ∷ dies 3 l₃ ∷ dies 4 l₄ ∷ dies 5 l₅ ∷ dies 6 l₆
-        ∷ dies 7 l₇ ∷ dies 8 l₈ ∷ dies 9 l₉ ∷ dies 10 l₁₀ ∷ dies 11 l₁₁ ∷ dies 12 l₁₂ ∷ []
+        ∷ room 8 l₈ ∷ room 9 l₉ ∷ room 10 l₁₀ ∷ room 11 l₁₁ ∷ room 12 l₁₂ ∷ ‵
+        Own ∷ ‵ (flft κ q)
+        ∷ dies 0 l₀ ∷ dies 1 l₁ ∷ dies 2 l₂ ∷ dies 3 l₃ ∷ dies 4 l₄ ∷ dies 5 l₅ ∷
+        dies 6 l₆
+        ∷ dies 7 l₇ ∷ dies 8 l₈ ∷ dies 9 l₉ ∷ dies 10 l₁₀ ∷ dies 11 l₁₁ ∷ dies 12
+        l₁₂ ∷ []
 
     -- The measure falls: fewer rows are left.
     abbrev Fewer : Turn s ys w l → Turn s ys w l → Type 0
@@ -306,7 +311,8 @@ module _ {M : Type 1} (𝓤 : URA M) (H : Heap 𝓤) (A : Atoms 𝓤) (W : Given
         forget ! 3 refl $ forget ! 4 refl $ forget ! 5 refl $ forget ! 6 refl $ forget ! 9 refl $
         forget ! 10 refl $
         -- [each local, with that it dies; what the slice owns; the token]
-        move ! (0 ∷ 15 ∷ 1 ∷ 16 ∷ 2 ∷ 17 ∷ 3 ∷ 18 ∷ 4 ∷ 19 ∷ 5 ∷ 20 ∷ 6 ∷ 21 ∷ 7 ∷ 22 ∷ 8 ∷ 23
+        move ! (0 ∷ 15 ∷ 1 ∷ 16 ∷ 2 ∷ 17 ∷ 3 ∷ 18 ∷ 4 ∷ 19 ∷ 5 ∷ 20 ∷ 6 ∷ 21 ∷ 7
+        ∷ 22 ∷ 8 ∷ 23
         ∷ 9 ∷ 24 ∷ 10 ∷ 25 ∷ 11 ∷ 26 ∷ 12 ∷ 27 ∷ []) $
         frees-all ! En $ keep ! (1 ∷ []) $ by ! (exits r v (e ∙ answer) is))
       where
@@ -321,11 +327,13 @@ module _ {M : Type 1} (𝓤 : URA M) (H : Heap 𝓤) (A : Atoms 𝓤) (W : Given
     turns t = go (decLt (t .at) n)
       where
         go : Dec (t .at < n)
-            → ent 𝓤 (⋆ 𝓤 H A (At t)) (Wp 𝓤 H C Λ En mir′.turn-1 (afterTurn 𝓤 H (Again t) Left))
+            → ent 𝓤 (⋆ 𝓤 H A (At t))
+            (Wp 𝓤 H C Λ En mir′.turn-1 (afterTurn 𝓤 H (Again t) Left))
         go (yes h) = more t h
         go (no h) = ends t (Again t) (omega arith)
 
-    loops : (t : Turn s ys w l) → ent 𝓤 (⋆ 𝓤 H A (At t)) (Wp 𝓤 H C Λ En (loop mir′.turn-1) Left)
+    loops : (t : Turn s ys w l) → ent 𝓤 (⋆ 𝓤 H A (At t))
+        (Wp 𝓤 H C Λ En (loop mir′.turn-1) Left)
     loops =
         loop-rule 𝓤 H (W .laws) 𝓣 Fewer
         (InvImage·wf (λ (t : Turn s ys w l). n - t .at) (Nat·lt-wfRel .wf)) En
@@ -339,9 +347,11 @@ module _ {M : Type 1} (𝓤 : URA M) (H : Heap 𝓤) (A : Atoms 𝓤) (W : Given
   walk 𝓣 known gs gn isw gl =
       qed W ((‵ (flft κ q) ⊛ ‵ ftrue)
       ∷ ‵ (owns (u8 ∷ ShrSlice (named 0) κ (R.the-row) ∷ T.the-row ∷ u8 ∷ []) x at) ∷ []) ∵
-      enter ! (𝓣 .C) (𝓣 .Λ) code.function _ _ $ alloc1 ! (λ l₀. alloc1 ! (λ l₁. alloc1 ! (λ l₂.
+      enter ! (𝓣 .C) (𝓣 .Λ) code.function _ _ $ alloc1 !
+      (λ l₀. alloc1 ! (λ l₁. alloc1 ! (λ l₂.
       alloc1 ! (λ l₃. alloc1 ! (λ l₄. alloc1 ! (λ l₅. alloc1 ! (λ l₆. alloc1 ! (λ l₇.
-      alloc1 ! (λ l₈. alloc1 ! (λ l₉. alloc1 ! (λ l₁₀. alloc1 ! (λ l₁₁. alloc1 ! (λ l₁₂. alloc0 ! $
+      alloc1 ! (λ l₈. alloc1 ! (λ l₉. alloc1 !
+      (λ l₁₀. alloc1 ! (λ l₁₁. alloc1 ! (λ l₁₂. alloc0 ! $
       params1 ! $ pass1 ! (init ! 22 refl (tt, record { fits = gs })) $
       pass1 ! (init ! 20 refl (tt, (tt, (record { fits = gn .0 }, tt)))) $
       pass1 ! (init ! 18 refl (fits W T.the-type T′.the-laws w isw .0)) $
@@ -388,7 +398,8 @@ module _ {M : Type 1} (𝓤 : URA M) (H : Heap 𝓤) (A : Atoms 𝓤) (W : Given
           (LL.tells T.the-type T′.the-laws, (uint-tells w8, tt)),
         ),
       ))
-      (λ κs qs bounds a g are. via 𝓤 _ (fst∗ 𝓤 _ (emp 𝓤)) (walk 𝓤 H A W mem run (κs .0) (qs .0)
+      (λ κs qs bounds a g are. via 𝓤 _ (fst∗ 𝓤 _ (emp 𝓤))
+      (walk 𝓤 H A W mem run (κs .0) (qs .0)
       (a .0) (a .1 .0 .ptr .0) (a .1 .0 .ptr .1) (a .1 .0 .name) (a .1 .0 .now) (a .1 .1 .0)
       (a .1 .1 .1 .0) 𝓣 known (are .0 .1) (are .1 .0 .0 .1) (are .1 .1 .0) (are .1 .1 .1 .0 .1)))
 
@@ -405,7 +416,8 @@ unfolding code.routine tablesOf
 tick-rows-spec 𝓤 H 𝓜 𝓖 𝓡 =
     entered 𝓤 H _
     (tables 𝓤 H 𝓜 𝓡 code.env .C) (tables 𝓤 H 𝓜 𝓡 code.env .Λ) #tick-rows code.function
-    (code.unfolded 𝓤 H 𝓜 𝓡) (meets 𝓤 H (𝓖 .A) (givenOf 𝓤 H 𝓜 𝓖) (𝓜 .mem) (𝓡 .run)
+    (code.unfolded 𝓤 H 𝓜 𝓡) (meets 𝓤 H (𝓖 .A) (givenOf 𝓤 H 𝓜 𝓖) (𝓜 .mem)
+    (𝓡 .run)
     (tablesOf 𝓤 H 𝓜 (tables 𝓤 H 𝓜 𝓡 code.env)) (record {
       begins = cited 𝓤 H _ 𝓜 𝓡 code.env #begin begin-def.routine code.calls-watcher·pass·begin
           (begin-thm.met 𝓤 H 𝓜 𝓖 𝓡);

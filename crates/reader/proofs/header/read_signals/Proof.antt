@@ -2,7 +2,7 @@
 -- are names, and those of the first six are kept. The measure: how many bytes are left. Assumes
 -- nothing.
 use Rattle.reader.proofs.SignalLaws.{ends-none, ends-many, ends-twice, ends-good}
-use Rattle.reader.specs.Header.{nameAdded}
+use Rattle.reader.specs.Gathering.{nameAdded}
 use Rattle.letters.proofs.Lists.{sameBytes-true, sameBytes-false}
 use Rattle.reader.proofs.HeaderLaws.{name-short}
 use borrow.Author.Tests.{not-true, not-false}

@@ -1,6 +1,6 @@
 -- `reader::header::with_name` meets its contract. Assumes nothing.
 use borrow.Author.Tests.{lt-ltb, le-ltb}
-use Rattle.reader.specs.Header.{nameAdded}
+use Rattle.reader.specs.Gathering.{nameAdded}
 use borrow.Author.Needs.{needs}
 use Rattle.reader.proofs.header.with_name.Statement.{statement}
 use Rattle.reader.proofs.header.with_name.Tie as tie
