@@ -2,21 +2,26 @@
 -- nothing else has to be believed. What each function answers, refused or not, is its contract in
 -- src/: one equation with a definition of the specs. Here stands what follows of those definitions.
 -- Assumes nothing.
-use Prim.Native.Nat.{ℕ, suc, _<_}
-use mathlib.Core.Bool.{true}
+use Prim.Native.Nat.{ℕ, suc, _<_, _≤_}
+use mathlib.Core.Bool.{true, false}
 use mathlib.Core.List.{List, map}
+use mathlib.Core.Logic.{_⊎_, _↔_}
 use mathlib.Core.Path.{_≡_, sym, ap, _∙_}
-use lib.ListN.{length, getD}
+use lib.ListN.{length, getD, take}
 use native.Mathlib.Nat.{lt-of-lt-of-le}
 use Rattle.letters.specs.Letter.{letters, letterFits, inSet}
 use Rattle.letters.proofs.Sets.{in-setOf}
 use Rattle.table.specs.Row.{noRow}
-use Rattle.table.specs.Valid.{rulesFit, tableFits}
+use Rattle.table.specs.Valid.{rulesFit, tableFits, rowsOf}
 use Rattle.table.specs.declared.Name.{Name}
 use Rattle.table.specs.declared.Row.{Row}
 use Rattle.table.specs.declared.Table.{Table}
 use Rattle.table.proofs.Laws.{rulesFit-rows}
-use Rattle.traces.specs.Trace.{AllBelow, run}
+use Rattle.traces.specs.System.{System}
+use Rattle.traces.specs.Trace.{AllBelow, run, Unbroken}
+use Rattle.traces.specs.Doomed.{Doomed}
+use Rattle.traces.specs.Verdict.{ReachedMany, Trapped, Sound}
+use Rattle.traces.proofs.Verdict.{trapped-not-sound}
 use Rattle.step.specs.declared.Phase.the-variants.{Waiting}
 use Rattle.step.specs.Phase.{codeOf, phaseOf, isBroken}
 use Rattle.step.specs.Tick.{someBroken, rowSystem, tableSystem}
@@ -45,8 +50,21 @@ use Rattle.reader.specs.declared.Reading.{Reading}
 use Rattle.reader.proofs.Accepted as R
 use Rattle.reader.proofs.Answers as A
 use Rattle.reader.proofs.Fits as F
+use Rattle.search.specs.Answer.{Lent, Searched, roomOf, systemOf, cleared, traced, refusedFound}
+use Rattle.search.specs.Answer.{soundFound, trappedFound, searchAnswer}
+use Rattle.search.specs.Bound.{mostStates}
+use Rattle.search.specs.declared.Verdict.the-variants.{Sound as SaysSound}
+use Rattle.search.specs.declared.Verdict.the-variants.{Trapped as SaysTrapped}
 use Rattle.demands.specs.Watching.{recordAfter, Accepted}
+use Rattle.demands.specs.Searching.{Dead, Shown, CanGoOn, Fit, withEntries, RightAnswer}
+use Rattle.demands.specs.Searching.{TrapShown, TrapRefused, SameLengths, SameScratch}
+use Rattle.demands.specs.Searching.{ScratchShown, EarliestDoomed}
+use Rattle.demands.specs.Searching.RightAnswer.{is17, is20}
 use Rattle.demands.proofs.Watching as W
+use Rattle.demands.proofs.Words as D
+use Rattle.demands.proofs.Searching as S
+use Rattle.demands.proofs.Entries as E
+use Rattle.demands.proofs.Alike as L
 
 -- The reader. Demand 1: any bytes are accepted with a table, or refused with a number, its line and
 -- an empty table.
@@ -165,3 +183,163 @@ module _ (s : ℕ) (rows : List Row) (watch : Watch) (l : ℕ) where
   pub refused-keeps : (n : ℕ) → numberOf (tickAnswer s rows watch l .outcome) ≡ suc n
       → tickAnswer s rows watch l .watch ≡ watch
   refused-keeps = W.answer-kept s rows watch l
+
+-- The search. Demand 1: each call, with any table value and any lent memory, has one of the five
+-- answers of `RightAnswer`, and what it says is so; and no other answer says what is so.
+module _ (table : Table) (lent : Lent) where
+  pub search-answered : RightAnswer table lent (searchAnswer table lent)
+  search-answered = S.answered table lent
+
+  pub search-only : (a : Searched) → RightAnswer table lent a → searchAnswer table lent ≡ a
+  search-only a = S.answer-is table lent
+
+  -- "A refusal gives number and line: .. else 0." Every list keeps its length.
+  pub search-line : lineOf (searchAnswer table lent .found .outcome) ≡ 0
+  search-line = S.line-zero table lent
+
+  pub search-lengths : SameLengths lent (searchAnswer table lent .lent)
+  search-lengths = E.lengths-kept table lent
+
+  -- 17: "a table value .. that no accepted file has"; "lent memory is unchanged".
+  pub refused-17 : tableFits table ≡ false
+      → searchAnswer table lent ≡ record { found = refusedFound 17; lent = lent }
+  refused-17 p = S.answer-is table lent (is17 p)
+
+  pub says-17 : numberOf (searchAnswer table lent .found .outcome) ≡ 17 → tableFits table ≡ false
+  says-17 = S.says-17 table lent
+
+  -- 20: "If the states don't fit, and only then, the search says so." "20 sets all scratch to 0."
+  pub refused-20 : tableFits table ≡ true → ReachedMany (systemOf table) (suc (roomOf lent))
+      → searchAnswer table lent ≡ record { found = refusedFound 20; lent = cleared lent }
+  refused-20 p m = S.answer-is table lent (is20 p m)
+
+  pub says-20 : numberOf (searchAnswer table lent .found .outcome) ≡ 20
+      → ReachedMany (systemOf table) (suc (roomOf lent))
+  says-20 = S.says-20 table lent
+
+  -- The states of an accepted table fit, or they do not.
+  pub fit-or-many : tableFits table ≡ true
+      → ((n : ℕ) × Fit table lent n) ⊎ ReachedMany (systemOf table) (suc (roomOf lent))
+  fit-or-many = S.fit-or-many table lent
+
+  -- "The count of configurations .. never exceeds the product over the rows of 1 + Tmax + Lmax +
+  -- Amax."
+  pub count-most : searchAnswer table lent .found .count ≤ mostStates (rowsOf table)
+  count-most = S.count-most table lent
+
+-- Demand 3. What trapped and sound mean, in the demand's own words, over any system.
+module _ (X : System) where
+  pub trapped-means : (w : List ℕ) (k : ℕ) → Trapped X w k ↔ Shown X w k
+  trapped-means w k = (D.trapped-shown X w k, D.shown-trapped X w k)
+
+  -- An "unbroken trace" with "a number of ticks after which every extension is broken" is one into
+  -- a doomed state.
+  pub dead-means : (w : List ℕ) → ((k : ℕ) × Dead X w k)
+      ↔ (Unbroken X w × Doomed X (run X (X .start) w))
+  dead-means w = (
+    λ d. (d .1 .fine, D.dead-doomed X w (d .0) (d .1)),
+    λ u. (u .1 .ticks, D.doomed-dead X w (u .0) (u .1)),
+  )
+
+  pub sound-means : Sound X ↔ CanGoOn X
+  sound-means = (D.sound-goes-on X, D.goes-on-sound X)
+
+  pub never-both : (w : List ℕ) (k : ℕ) → Trapped X w k → Sound X → ⊥
+  never-both = trapped-not-sound X
+
+-- "For any accepted table whose states reached by unbroken traces fit the lent scratch", n of them.
+module _ (table : Table) (lent : Lent) (n : ℕ) (fit : Fit table lent n) where
+  -- "Sound exactly when every unbroken trace can go on unbroken for every number of ticks." "Under
+  -- sound the first two are 0", and the trace buffer "is unchanged".
+  pub sound-exactly : (searchAnswer table lent .found .verdict ≡ SaysSound) ↔ Sound (systemOf table)
+  sound-exactly = (
+    S.says-sound table lent,
+    λ s. ap (λ (a : Searched). a .found .verdict) (S.sound-answer table lent n fit s),
+  )
+
+  pub sound-answer : Sound (systemOf table)
+      → searchAnswer table lent ≡ record { found = soundFound n; lent = withEntries table lent }
+  sound-answer = S.sound-answer table lent n fit
+
+  -- "Trapped exactly when some unbroken trace has a number of ticks after which every extension is
+  -- broken": it is shown, or refused with 21. "Both verdicts give the count of the states reached."
+  pub trapped-exactly : (
+      (searchAnswer table lent .found .verdict ≡ SaysTrapped)
+      ⊎ (numberOf (searchAnswer table lent .found .outcome) ≡ 21))
+      ↔ ((w : List ℕ) × (k : ℕ) × Dead (systemOf table) w k)
+  trapped-exactly = S.trapped-exactly table lent n fit
+
+  pub doomed-answer : (w : List ℕ) → Unbroken (systemOf table) w
+      → Doomed (systemOf table) (run (systemOf table) (systemOf table .start) w)
+      → TrapShown table lent n (searchAnswer table lent)
+      ⊎ TrapRefused table lent (searchAnswer table lent)
+  doomed-answer = S.doomed-answer table lent n fit
+
+  pub says-trapped : searchAnswer table lent .found .verdict ≡ SaysTrapped
+      → TrapShown table lent n (searchAnswer table lent)
+  says-trapped = S.says-trapped table lent n fit
+
+  pub says-21 : numberOf (searchAnswer table lent .found .outcome) ≡ 21
+      → TrapRefused table lent (searchAnswer table lent)
+  says-21 = S.says-21 table lent
+
+  -- The scratch under a verdict, and under 21: the columns of the entries; and what each place
+  -- holds.
+  pub scratch-columns : SameScratch (searchAnswer table lent .lent) (withEntries table lent)
+  scratch-columns = S.scratch-is table lent n fit
+
+  pub scratch-shown : ScratchShown table n (searchAnswer table lent .lent)
+  scratch-shown = E.scratch-shown table lent n fit (searchAnswer table lent .lent) scratch-columns
+
+  -- "If any entry is doomed the verdict is trapped with the earliest doomed entry's trace."
+  pub earliest-doomed : (w : List ℕ) (k : ℕ) → Trapped (systemOf table) w k
+      → EarliestDoomed n (scratch-shown .trace) (searchAnswer table lent .lent .lost) w k
+  earliest-doomed = E.earliest-doomed table n (searchAnswer table lent .lent) scratch-shown
+
+  module _ (w : List ℕ) (k : ℕ) (trapped : Trapped (systemOf table) w k) where
+    -- "The trace buffer holds it from the front, the rest unchanged."
+    pub trapped-answer : length w ≤ length (lent .trace)
+        → searchAnswer table lent
+        ≡ record { found = trappedFound n w k; lent = traced w (withEntries table lent) }
+    trapped-answer = S.trapped-answer table lent n fit w k trapped
+
+    pub shown-exactly : (searchAnswer table lent .found .verdict ≡ SaysTrapped)
+        ↔ (length w ≤ length (lent .trace))
+    shown-exactly = S.shown-exactly table lent n fit w k trapped
+
+    -- A buffer as long as the room holds every trace that is shown.
+    pub trace-low : length w < n
+    trace-low = E.trace-low table n (searchAnswer table lent .lent) scratch-shown w k trapped
+
+    -- "A trapped table is refused instead exactly when that trace is longer than its buffer."
+    pub refused-21 : length (lent .trace) < length w
+        → searchAnswer table lent
+        ≡ record { found = refusedFound 21; lent = withEntries table lent }
+    refused-21 = S.refused-answer table lent n fit w k trapped
+
+    pub refused-exactly : (numberOf (searchAnswer table lent .found .outcome) ≡ 21)
+        ↔ (length (lent .trace) < length w)
+    refused-exactly = S.refused-exactly table lent n fit w k trapped
+
+-- "Whatever scratch and trace buffer held before": only their lengths count.
+module _ (table : Table) (one other : Lent) (lengths : SameLengths one other) where
+  pub same-found : searchAnswer table one .found ≡ searchAnswer table other .found
+  same-found = L.same-found table one other lengths
+
+  pub same-scratch : tableFits table ≡ true
+      → SameScratch (searchAnswer table one .lent) (searchAnswer table other .lent)
+  same-scratch = L.same-scratch table one other lengths
+
+-- "The signals and rows alone choose the verdict", with its trace, lost number and count, wherever
+-- the states and the trace fit.
+module _ (one other : Table) (lent held : Lent) (n : ℕ) (fit : Fit one lent n)
+    (passes : tableFits other ≡ true) (signals : one .signals ≡ other .signals)
+    (rows : rowsOf one ≡ rowsOf other) (room : n ≤ roomOf held)
+    (short : (w : List ℕ) (k : ℕ) → Trapped (systemOf one) w k
+    → (length w ≤ length (lent .trace)) × (length w ≤ length (held .trace))) where
+  pub rows-choose : searchAnswer one lent .found ≡ searchAnswer other held .found
+  rows-choose = L.rows-choose one other lent held n fit passes signals rows room short
+
+  pub rows-show : take (searchAnswer one lent .found .length) (searchAnswer one lent .lent .trace)
+      ≡ take (searchAnswer one lent .found .length) (searchAnswer other held .lent .trace)
+  rows-show = L.rows-show one other lent held n fit passes signals rows room short

@@ -1,5 +1,9 @@
 -- Read `Demands` and the specs: nothing else has to be believed. `Starred` is the worked cases;
--- `Watching` proves.
+-- `Watching` proves of the watcher, and `Words`, `Searching`, `Entries` and `Alike` of the search.
 pub mod Demands
 pub mod Starred
 pub mod Watching
+pub mod Words
+pub mod Searching
+pub mod Entries
+pub mod Alike

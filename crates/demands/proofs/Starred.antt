@@ -1,13 +1,102 @@
 -- The starred cases of "First boards", by computation over the definitions. Assumes nothing.
-use mathlib.Core.Bool.{true}
-use mathlib.Core.Path.{_≡_, refl}
+use Prim.Native.Nat.{ℕ, _≤_, _<_}
+use native.Mathlib.Omega.{arith}
+use mathlib.Core.Bool.{true, false≢true, _&&_}
+use mathlib.Core.List.{List, [], _∷_}
+use mathlib.Core.Path.{_≡_, refl, _∙_}
+use borrow.Author.Tests.{eqb-true, le-leb}
+use lib.Dec.{eqb}
+use lib.ListN.{length, getD}
 use Rattle.letters.specs.Letter.{bitAt, setOf}
-use Rattle.letters.specs.Lists.{every}
+use Rattle.letters.specs.Lists.{every, some, sameBytes}
+use Rattle.letters.proofs.Lists.{and-left, and-right, every-at, sameBytes-true}
+use Rattle.table.specs.Valid.{tableFits, rowsOf}
+use Rattle.table.specs.declared.Row.{Row}
+use Rattle.table.specs.declared.Table.{Table}
+use Rattle.traces.specs.System.{System}
 use Rattle.traces.specs.Trace.{run}
-use Rattle.step.specs.Phase.{codeOf}
+use Rattle.traces.specs.Entries.{back, traceOf}
+use Rattle.traces.specs.Explore.{has, enter, visit, explore}
+use Rattle.traces.specs.Least.{passBelow, breaksIn, lostWithin}
+use Rattle.traces.specs.Answer.{Answer, Right, verdictFrom, answer}
+use Rattle.traces.specs.Answer.Answer.{tooMany, sound, trapped}
+use Rattle.traces.specs.Answer.Right.{trapped-right}
+use Rattle.traces.proofs.Answer.{answer-right}
+use Rattle.step.specs.Phase.{codeOf, isBroken}
 use Rattle.step.specs.Step.{actionCheck, delayCheck, triggerCheck, stepRow}
-use Rattle.demands.specs.Cases.{right, starred}
+use Rattle.step.specs.Tick.{tick, tableSystem}
+use Rattle.step.proofs.Systems.{table-lawful}
+use Rattle.search.specs.Same.{kindOf, elapsed, samePhase, samePhases}
+use Rattle.search.specs.Answer.{Lent, roomOf, traced, trappedFound, judged, searchAnswer}
+use Rattle.search.proofs.Same.{phases-tell}
+use Rattle.demands.specs.Cases.{P, Case, Means, trappedWith, right, starred, report, delayed}
+use Rattle.demands.specs.Cases.Case.{after, traps}
+use Rattle.demands.specs.Searching.{withEntries}
+use Rattle.demands.proofs.Searching.{right-judged}
 
 pub starred-right : every right starred ≡ true
 unfolding every right starred run codeOf stepRow triggerCheck delayCheck actionCheck bitAt setOf
+    trappedWith answer verdictFrom lostWithin breaksIn passBelow traceOf back explore visit enter
+    has samePhases samePhase kindOf elapsed tick some isBroken sameBytes
 starred-right = refl
+
+-- The test of an answer tells what it is.
+trapped-is : (w : List ℕ) (k n : ℕ) (r : Answer) → trappedWith w k n r ≡ true → r ≡ trapped n w k
+unfolding trappedWith
+trapped-is w k n tooMany h = absurd (false≢true h)
+trapped-is w k n (sound m) h = absurd (false≢true h)
+trapped-is w k n (trapped m v j) h =
+    let front = and-left (sameBytes v w && eqb j k) (eqb m n) h in
+    let trace = sameBytes-true v w (and-left (sameBytes v w) (eqb j k) front) in
+    let ticks = eqb-true j k (and-right (sameBytes v w) (eqb j k) front) in
+    let count = eqb-true m n (and-right (sameBytes v w && eqb j k) (eqb m n) h) in
+    cc
+
+-- What is right of a trapped table stays right at every room that holds the states.
+trapped-room : (X : System) (room other : ℕ) (w : List ℕ) (k n : ℕ) → n ≤ other
+    → Right X room (trapped n w k) → Right X other (trapped n w k)
+trapped-room X room other w k n h (trapped-right c q t) = trapped-right c h t
+
+table-means : (rows : List Row) (w : List ℕ) (k n : ℕ) → right (traps rows w k n) ≡ true
+    → Means (traps rows w k n)
+unfolding right judged
+table-means rows w k n h table lent passes signals is room short =
+    right-judged table lent passes (trapped n w k)
+    (rw (signals, is) (trapped-room X 8 (roomOf lent) w k n room computed))
+    ∙ rw (le-leb (length w) (length (lent .trace)) short)
+  where
+    X : System
+    X = tableSystem 2 rows
+
+    computed : Right X 8 (trapped n w k)
+    computed = rw (trapped-is w k n (answer X samePhases 8) h) at
+        (answer-right X 8 (table-lawful 2 rows) samePhases (phases-tell 2 rows))
+
+pub right-means : (case : Case) → right case ≡ true → Means case
+unfolding right
+right-means (after row letters code) h = eqb-true _ code h
+right-means (traps rows w k n) h = table-means rows w k n h
+
+-- So each starred case holds, and of a table it holds at every room that holds the states.
+pub starred-means : (i : ℕ) → i < length starred → Means (getD starred i (after P [] 0))
+starred-means i h = right-means _ (every-at right starred i (after P [] 0) starred-right h)
+
+-- "The report's table: trapped, trace 1, lost 1, two states."
+module _ (table : Table) (lent : Lent) (passes : tableFits table ≡ true)
+    (signals : table .signals ≡ 2) (short : 1 ≤ length (lent .trace)) where
+  pub report-trapped : rowsOf table ≡ report → 2 ≤ roomOf lent
+      → searchAnswer table lent ≡ record {
+        found = trappedFound 2 (1 ∷ []) 1;
+        lent = traced (1 ∷ []) (withEntries table lent);
+      }
+  unfolding starred
+  report-trapped is room = starred-means 14 (omega arith) table lent passes signals is room short
+
+  -- "One row `a,a,a,0,0,0,3,0,0,0,0,0`: trapped, trace 1, lost 3, four states."
+  pub delayed-trapped : rowsOf table ≡ delayed → 4 ≤ roomOf lent
+      → searchAnswer table lent ≡ record {
+        found = trappedFound 4 (1 ∷ []) 3;
+        lent = traced (1 ∷ []) (withEntries table lent);
+      }
+  unfolding starred
+  delayed-trapped is room = starred-means 15 (omega arith) table lent passes signals is room short

@@ -1,14 +1,25 @@
--- "First boards", the starred cases: signals `a c`, and the phase of a row after the letters.
-use Prim.Native.Nat.{ℕ}
-use mathlib.Core.Bool.{Bool, true, false}
+-- "First boards", the starred cases: signals `a c`, and the phase of a row after the letters, or
+-- what the search says of a table.
+use Prim.Native.Nat.{ℕ, _≤_}
+use mathlib.Core.Bool.{Bool, true, false, not, _&&_}
 use mathlib.Core.List.{List, [], _∷_}
+use mathlib.Core.Path.{_≡_}
 use lib.Dec.{eqb}
+use lib.ListN.{length}
 use Rattle.letters.specs.Letter.{signalOn, setOf}
+use Rattle.letters.specs.Lists.{sameBytes}
+use Rattle.table.specs.Valid.{tableFits, rowsOf}
 use Rattle.table.specs.declared.Row.{Row}
+use Rattle.table.specs.declared.Table.{Table}
 use Rattle.traces.specs.Trace.{run}
+use Rattle.traces.specs.Answer.{Answer, answer}
+use Rattle.traces.specs.Answer.Answer.{tooMany, sound, trapped}
 use Rattle.step.specs.declared.Phase.the-variants.{Waiting}
 use Rattle.step.specs.Phase.{codeOf}
-use Rattle.step.specs.Tick.{rowSystem}
+use Rattle.step.specs.Tick.{rowSystem, tableSystem}
+use Rattle.search.specs.Same.{samePhases}
+use Rattle.search.specs.Answer.{Lent, roomOf, traced, trappedFound, searchAnswer}
+use Rattle.demands.specs.Searching.{withEntries}
 
 -- The conditions of the rows, as sets of the four letters.
 abbrev a : ℕ
@@ -16,6 +27,9 @@ a = setOf 4 (λ letter. signalOn letter 0)
 
 abbrev c : ℕ
 c = setOf 4 (λ letter. signalOn letter 1)
+
+abbrev notC : ℕ
+notC = setOf 4 (λ letter. not (signalOn letter 1))
 
 abbrev never : ℕ
 never = setOf 4 (λ letter. false)
@@ -36,7 +50,7 @@ timed sets tmin tmax lmin lmax amin amax = record {
 }
 
 -- P is `a,a,a,0,0,1,1,c,c,c,0,0`.
-abbrev P : Row
+abbrev pub P : Row
 P = timed (a ∷ a ∷ a ∷ c ∷ c ∷ c ∷ []) 0 0 1 1 0 0
 
 -- Q is `a,a,c,2,3,0,0,0,0,0,0,0`.
@@ -47,17 +61,39 @@ Q = timed (a ∷ a ∷ c ∷ never ∷ never ∷ never ∷ []) 2 3 0 0 0 0
 abbrev S : Row
 S = timed (a ∷ a ∷ a ∷ always ∷ c ∷ a ∷ []) 0 0 0 0 1 2
 
--- A row, the letters that it reads from the start, and the code of its phase then.
-pub record Case : Type 0 where
-  pub row : Row
-  pub letters : List ℕ
-  pub code : ℕ
+-- "The report's table": P, and `a,a,a,0,0,1,1,!c,!c,!c,0,0`.
+abbrev pub report : List Row
+report = P ∷ timed (a ∷ a ∷ a ∷ notC ∷ notC ∷ notC ∷ []) 0 0 1 1 0 0 ∷ []
 
-abbrev after : Row → List ℕ → ℕ → Case
-after row letters code = record { row = row; letters = letters; code = code }
+-- "One row `a,a,a,0,0,0,3,0,0,0,0,0`."
+abbrev pub delayed : List Row
+delayed = timed (a ∷ a ∷ a ∷ never ∷ never ∷ never ∷ []) 0 0 0 3 0 0 ∷ []
 
+-- A row, the letters that it reads from the start, and the code of its phase then; or the rows of a
+-- table that is trapped, the trace, the lost number and the count of states.
+pub data Case : Type 0 where
+  after : Row → List ℕ → ℕ → Case
+  traps : List Row → List ℕ → ℕ → ℕ → Case
+
+unfoldable pub trappedWith : List ℕ → ℕ → ℕ → Answer → Bool
+trappedWith w k n tooMany = false
+trappedWith w k n (sound m) = false
+trappedWith w k n (trapped m v j) = sameBytes v w && eqb j k && eqb m n
+
+-- What is computed: a room of 8 is enough.
 unfoldable pub right : Case → Bool
-right case = eqb (codeOf (run (rowSystem 2 (case .row)) Waiting (case .letters))) (case .code)
+right (after row letters code) = eqb (codeOf (run (rowSystem 2 row) Waiting letters)) code
+right (traps rows w k n) = trappedWith w k n (answer (tableSystem 2 rows) samePhases 8)
+
+-- What it means: the phase after the letters; or the whole answer of the search, for every table
+-- value with those rows and all lent memory that holds the states and the trace.
+abbrev pub Means : Case → Type 0
+Means (after row letters code) = codeOf (run (rowSystem 2 row) Waiting letters) ≡ code
+Means (traps rows w k n) = (table : Table) (lent : Lent) → tableFits table ≡ true
+    → table .signals ≡ 2 → rowsOf table ≡ rows → n ≤ roomOf lent
+    → length w ≤ length (lent .trace)
+    → searchAnswer table lent
+    ≡ record { found = trappedFound n w k; lent = traced w (withEntries table lent) }
 
 unfoldable pub starred : List Case
 starred =
@@ -75,4 +111,6 @@ starred =
     ∷ after S (1 ∷ []) 255
     ∷ after S (3 ∷ 3 ∷ []) 0
     ∷ after S (3 ∷ 2 ∷ 2 ∷ []) 255
+    ∷ traps report (1 ∷ []) 1 2
+    ∷ traps delayed (1 ∷ []) 3 4
     ∷ []

@@ -1,2 +1,3 @@
 pub mod Watching
+pub mod Searching
 pub mod Cases

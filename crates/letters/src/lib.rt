@@ -38,7 +38,7 @@ pub fn set_fits(signals: u8, set: u64) -> bool
 }
 
 // How many letters so many signals have, as far as a set can hold them.
-fn width_of(signals: u8) -> u8
+pub fn width_of(signals: u8) -> u8
     ensures { λ r. ⌜ r ≡ width signals ⌝ }
 {
     if signals < 6 { 1u8 << signals } else { 64 }

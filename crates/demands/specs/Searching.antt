@@ -1,0 +1,151 @@
+-- What the promises about the search speak of.
+use Prim.Native.Nat.{ℕ, suc, _≤_, _<_}
+use mathlib.Core.Bool.{true, false}
+use mathlib.Core.List.{List, [], _∷_, _++_}
+use mathlib.Core.Logic.{_⊎_}
+use mathlib.Core.Path.{_≡_}
+use lib.ListN.{length, getD, drop}
+use Rattle.table.specs.Valid.{tableFits, rowsOf}
+use Rattle.table.specs.declared.Table.{Table}
+use Rattle.traces.specs.System.{System}
+use Rattle.traces.specs.Trace.{AllBelow, run, Unbroken, Reached}
+use Rattle.traces.specs.Order.{Earlier, NotAfter}
+use Rattle.traces.specs.Doomed.{Doomed, Lost}
+use Rattle.traces.specs.Verdict.{ReachedMany, ReachedCount, Trapped, Sound}
+use Rattle.traces.specs.Lists.{ZeroFrom}
+use Rattle.step.specs.declared.Phase.{Phase}
+use Rattle.step.specs.Tick.{startPhases}
+use Rattle.search.specs.State.{packed}
+use Rattle.search.specs.Answer.{Lent, Searched, roomOf, systemOf, entriesWithin, filled, cleared}
+use Rattle.search.specs.Answer.{traced, refusedFound, soundFound, trappedFound}
+
+-- Demand 3 in its own words, over traces. "Some unbroken trace has a number of ticks after which
+-- every extension is broken": w is such a trace and n such a number. "An extension of a trace by n
+-- ticks is that trace and n letters more, whichever they are."
+pub record Dead (X : System) (w : List ℕ) (n : ℕ) : Type 0 where
+  pub fine : Unbroken X w
+  pub broken : (v : List ℕ) → length v ≡ n → AllBelow (X .letters) v
+      → X .broken (run X (X .start) (w ++ v)) ≡ true
+
+-- "Trapped shows such a trace: every other such trace is longer, or as long with a larger letter
+-- where the two first differ. With it goes one such number, and every other for that trace is
+-- larger."
+pub record Shown (X : System) (w : List ℕ) (k : ℕ) : Type 0 where
+  pub such : Dead X w k
+  pub earliest : (v : List ℕ) (n : ℕ) → Dead X v n → NotAfter w v
+  pub least : (n : ℕ) → Dead X w n → k ≤ n
+
+-- "Every unbroken trace can go on unbroken for every number of ticks."
+pub record CanGoOn (X : System) : Type 0 where
+  pub on : (w : List ℕ) → Unbroken X w → (n : ℕ)
+      → (v : List ℕ) × (length v ≡ n) × Unbroken X (w ++ v)
+
+-- "An accepted table is any table value that number 17 lets by"; "the states fit if there are no
+-- more different ones than the room": n of them.
+pub record Fit (table : Table) (lent : Lent) (n : ℕ) : Type 0 where
+  pub passes : tableFits table ≡ true
+  pub count : ReachedCount (systemOf table) n
+  pub room : n ≤ roomOf lent
+
+-- The lent memory with the entries in its scratch: "21 leaves it as under a verdict".
+abbrev pub withEntries : Table → Lent → Lent
+withEntries table lent = filled table (entriesWithin (roomOf lent) table) lent
+
+-- "The search tests 17, 20, 21": all that a call can answer, and what each answer says.
+pub data RightAnswer (table : Table) (lent : Lent) : Searched → Type 0 where
+  is17 : tableFits table ≡ false
+      → RightAnswer table lent (record { found = refusedFound 17; lent = lent })
+  is20 : tableFits table ≡ true → ReachedMany (systemOf table) (suc (roomOf lent))
+      → RightAnswer table lent (record { found = refusedFound 20; lent = cleared lent })
+  is21 : {n k : ℕ} {w : List ℕ} → Fit table lent n → Trapped (systemOf table) w k
+      → length (lent .trace) < length w
+      → RightAnswer table lent (record { found = refusedFound 21; lent = withEntries table lent })
+  isSound : {n : ℕ} → Fit table lent n → Sound (systemOf table)
+      → RightAnswer table lent (record { found = soundFound n; lent = withEntries table lent })
+  isTrapped : {n k : ℕ} {w : List ℕ} → Fit table lent n → Trapped (systemOf table) w k
+      → length w ≤ length (lent .trace)
+      → RightAnswer table lent
+      (record { found = trappedFound n w k; lent = traced w (withEntries table lent) })
+
+-- What is answered of a trapped table: the trace and its lost number, with n states,
+pub record TrapShown (table : Table) (lent : Lent) (n : ℕ) (a : Searched) : Type 0 where
+  pub trace : List ℕ
+  pub ticks : ℕ
+  pub trapped : Trapped (systemOf table) trace ticks
+  pub short : length trace ≤ length (lent .trace)
+  pub found : a .found ≡ trappedFound n trace ticks
+  -- "The trace buffer holds it from the front, the rest unchanged."
+  pub buffer : a .lent .trace ≡ trace ++ drop (length trace) (lent .trace)
+
+-- or that this "trace is longer than its buffer".
+pub record TrapRefused (table : Table) (lent : Lent) (a : Searched) : Type 0 where
+  pub trace : List ℕ
+  pub ticks : ℕ
+  pub trapped : Trapped (systemOf table) trace ticks
+  pub long : length (lent .trace) < length trace
+  pub found : a .found ≡ refusedFound 21
+  pub buffer : a .lent .trace ≡ lent .trace
+
+-- Lent memory of the same size, whatever it holds.
+pub record SameLengths (one other : Lent) : Type 0 where
+  pub states : length (one .states) ≡ length (other .states)
+  pub befores : length (one .befores) ≡ length (other .befores)
+  pub letters : length (one .letters) ≡ length (other .letters)
+  pub lost : length (one .lost) ≡ length (other .lost)
+  pub trace : length (one .trace) ≡ length (other .trace)
+
+-- The four scratch lists hold the same.
+pub record SameScratch (one other : Lent) : Type 0 where
+  pub states : one .states ≡ other .states
+  pub befores : one .befores ≡ other .befores
+  pub letters : one .letters ≡ other .letters
+  pub lost : one .lost ≡ other .lost
+
+-- "The lost number (0 if not doomed)."
+abbrev pub LostOrZero : (X : System) → X .State → ℕ → Type 0
+LostOrZero X s n = ((n ≡ 0) × (Doomed X s → ⊥)) ⊎ Lost X s n
+
+-- What scratch holds of entry e, with `state` and `trace` giving the states of the entries and
+-- their earliest traces. "Each entry has the state, the number of its predecessor entry, the letter
+-- between them, and the lost number (0 if not doomed)."
+pub record EntryShown (table : Table) (state : ℕ → List Phase) (trace : ℕ → List ℕ) (lent : Lent)
+    (e : ℕ)
+    : Type 0 where
+  pub fine : Unbroken (systemOf table) (trace e)
+  pub leads : run (systemOf table) (systemOf table .start) (trace e) ≡ state e
+  pub earliest : (v : List ℕ) → Unbroken (systemOf table) v
+      → run (systemOf table) (systemOf table .start) v ≡ state e → NotAfter (trace e) v
+  pub number : getD (lent .states) e 0 ≡ packed (state e)
+  -- "Entry 0 is all waiting, with predecessor 0 and letter 0."
+  pub first : e ≡ 0 → (trace e ≡ []) × (state e ≡ startPhases (rowsOf table))
+      × (getD (lent .befores) e 0 ≡ 0) × (getD (lent .letters) e 0 ≡ 0)
+  -- "The predecessor is the state after the entry's earliest trace without its last letter, and the
+  -- letter is that last one."
+  pub later : 0 < e → (getD (lent .befores) e 0 < e)
+      × (trace e ≡ trace (getD (lent .befores) e 0) ++ (getD (lent .letters) e 0 ∷ []))
+  pub lost : LostOrZero (systemOf table) (state e) (getD (lent .lost) e 0)
+
+-- "States reached by unbroken traces are entered once each, in the order of their earliest trace:
+-- shorter first, then by the first letter that is smaller." n entries.
+pub record ScratchShown (table : Table) (n : ℕ) (lent : Lent) : Type 0 where
+  pub state : ℕ → List Phase
+  pub trace : ℕ → List ℕ
+  pub entry : (e : ℕ) → e < n → EntryShown table state trace lent e
+  pub every : (s : List Phase) → Reached (systemOf table) s
+      → (e : ℕ) × (e < n) × (state e ≡ s)
+  pub once : (e f : ℕ) → e < f → f < n → state e ≡ state f → ⊥
+  pub order : (e f : ℕ) → e < f → f < n → Earlier (trace e) (trace f)
+  -- "Scratch beyond the entries is set to 0, to the end of each list."
+  pub states-end : ZeroFrom n (lent .states)
+  pub befores-end : ZeroFrom n (lent .befores)
+  pub letters-end : ZeroFrom n (lent .letters)
+  pub lost-end : ZeroFrom n (lent .lost)
+
+-- "The earliest doomed entry's trace" w, with its lost number k.
+pub record EarliestDoomed (n : ℕ) (trace : ℕ → List ℕ) (lost : List ℕ) (w : List ℕ) (k : ℕ)
+    : Type 0 where
+  pub entry : ℕ
+  pub low : entry < n
+  pub leads : trace entry ≡ w
+  pub number : getD lost entry 0 ≡ k
+  pub first : (e : ℕ) → e < entry → getD lost e 0 ≡ 0
