@@ -2,7 +2,7 @@
 -- nothing else has to be believed. What each function answers, refused or not, is its contract in
 -- src/: one equation with a definition of the specs. Here stands what follows of those definitions.
 -- Assumes nothing.
-use Prim.Native.Nat.{ℕ, suc, _<_, _≤_}
+use Prim.Native.Nat.{ℕ, suc, _^_, _<_, _≤_}
 use mathlib.Core.Bool.{true, false}
 use mathlib.Core.List.{List, map}
 use mathlib.Core.Logic.{_⊎_, _↔_}
@@ -18,10 +18,11 @@ use Rattle.table.specs.declared.Row.{Row}
 use Rattle.table.specs.declared.Table.{Table}
 use Rattle.table.proofs.Laws.{rulesFit-rows}
 use Rattle.traces.specs.System.{System}
-use Rattle.traces.specs.Trace.{AllBelow, run, Unbroken}
+use Rattle.traces.specs.Trace.{AllBelow, run, Unbroken, Reached}
 use Rattle.traces.specs.Doomed.{Doomed}
 use Rattle.traces.specs.Verdict.{ReachedMany, Trapped, Sound}
 use Rattle.traces.proofs.Verdict.{trapped-not-sound}
+use Rattle.step.specs.declared.Phase.{Phase}
 use Rattle.step.specs.declared.Phase.the-variants.{Waiting}
 use Rattle.step.specs.Phase.{codeOf, phaseOf, isBroken}
 use Rattle.step.specs.Tick.{someBroken, rowSystem, tableSystem}
@@ -53,6 +54,7 @@ use Rattle.reader.proofs.Fits as F
 use Rattle.search.specs.Answer.{Lent, Searched, roomOf, systemOf, cleared, traced, refusedFound}
 use Rattle.search.specs.Answer.{soundFound, trappedFound, searchAnswer}
 use Rattle.search.specs.Bound.{mostStates}
+use Rattle.search.specs.State.{packed, unpacked}
 use Rattle.search.specs.declared.Verdict.the-variants.{Sound as SaysSound}
 use Rattle.search.specs.declared.Verdict.the-variants.{Trapped as SaysTrapped}
 use Rattle.demands.specs.Watching.{recordAfter, Accepted}
@@ -65,6 +67,7 @@ use Rattle.demands.proofs.Words as D
 use Rattle.demands.proofs.Searching as S
 use Rattle.demands.proofs.Entries as E
 use Rattle.demands.proofs.Alike as L
+use Rattle.demands.proofs.StateNumbers as N
 
 -- The reader. Demand 1: any bytes are accepted with a table, or refused with a number, its line and
 -- an empty table.
@@ -226,6 +229,16 @@ module _ (table : Table) (lent : Lent) where
   -- Amax."
   pub count-most : searchAnswer table lent .found .count ≤ mostStates (rowsOf table)
   count-most = S.count-most table lent
+
+-- "A state is the phases of all rows, as one number of 64 bits": each reached state's number is one
+-- of 64 bits, and gives the state back.
+module _ (table : Table) (passes : tableFits table ≡ true) (phases : List Phase)
+    (reached : Reached (systemOf table) phases) where
+  pub number-fits : packed phases < 2 ^ 64
+  number-fits = N.number-fits table passes phases reached
+
+  pub number-state : unpacked (rowsOf table) (packed phases) ≡ phases
+  number-state = N.number-state table passes phases reached
 
 -- Demand 3. What trapped and sound mean, in the demand's own words, over any system.
 module _ (X : System) where

@@ -1,5 +1,6 @@
 -- Read `Demands` and the specs: nothing else has to be believed. `Starred` is the worked cases;
--- `Watching` proves of the watcher, and `Words`, `Searching`, `Entries` and `Alike` of the search.
+-- `Watching` proves of the watcher, and `Words`, `Searching`, `Entries`, `Alike`
+-- and `StateNumbers` of the search.
 pub mod Demands
 pub mod Starred
 pub mod Watching
@@ -7,3 +8,4 @@ pub mod Words
 pub mod Searching
 pub mod Entries
 pub mod Alike
+pub mod StateNumbers
