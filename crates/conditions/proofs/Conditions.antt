@@ -67,7 +67,8 @@ module _ (names : List Name) (n : ℕ) (s : List ℕ) where
       go (Set w t last) h q = end w t (eqb last (length s)) last refl h q
 
   -- Where nothing is read, no condition writes the bytes.
-  pub nothing-read : conditionOf names n s ≡ Nothing → (v : ℕ) (u : Bool) → Means names n s v u → ⊥
+  pub nothing-read : conditionOf names n s ≡ Nothing → (v : ℕ) (u : Bool)
+      → Means names n s v u → ⊥
   nothing-read e v u m =
       let read = means-read v u m in
       let z : _≡_ {A = ℕ} 0 1 = cc in

@@ -52,7 +52,8 @@ deep-over (x ∷ xs) o c e = go (ltb (c' + 8) o') refl e (deep-over xs o' c')
         let ys = take (later .0) xs in
         (suc (later .0), omega (arith, later .1, count-cons opening x ys, count-cons closing x ys))
 
-deep-within : (xs : List ℕ) (o c : ℕ) → deep o c xs ≡ false → o ≤ c + 8 → (i : ℕ) → Within o c xs i
+deep-within : (xs : List ℕ) (o c : ℕ) → deep o c xs ≡ false → o ≤ c + 8 → (i : ℕ)
+    → Within o c xs i
 unfolding deep count
 deep-within [] o c e h zero = omega arith
 deep-within [] o c e h (suc i) = omega arith

@@ -53,7 +53,8 @@ module _ (names : List Name) (n : ℕ) (xs : List ℕ) where
   right-unique {a} {b} h g = sym (right-judge a h) ∙ right-judge b g
 
   -- The numbers that a condition can get.
-  pub judge-number : (m : ℕ) → judge names n xs ≡ Refused m → (m ≡ 11) ⊎ ((m ≡ 12) ⊎ (m ≡ 13))
+  pub judge-number : (m : ℕ) → judge names n xs ≡ Refused m
+      → (m ≡ 11) ⊎ ((m ≡ 12) ⊎ (m ≡ 13))
   judge-number m e = go (judge names n xs) judge-right e
     where
       go : (r : Judged) → Right names n xs r → r ≡ Refused m

@@ -73,7 +73,8 @@ take-zeros zero k h = refl
 take-zeros (suc m) zero h = absurd (omega arith)
 take-zeros (suc m) (suc k) h = ap (_∷_ 0) (take-zeros m k (omega arith))
 
-filled-end : (w : List ℕ) (i m k : ℕ) → i ≤ length w → i ≤ m → min (length w) m ≤ i → m ≤ k
+filled-end : (w : List ℕ) (i m k : ℕ) → i ≤ length w → i ≤ m → min (length w) m ≤ i
+    → m ≤ k
     → filled w (replicate m 0) i ≡ take m (w ++ replicate k 0)
 filled-end [] zero m k a b c d = sym (take-zeros m k d)
 filled-end [] (suc i) m k a b c d = absurd (omega arith)

@@ -42,7 +42,8 @@ module _ (names : List Name) (n : ℕ) (s : List ℕ) where
   Sound k at Nothing = Unit {0}
 
   -- A part, and where the byte b follows it, more of the same kind.
-  followed-sound : {k part : Kind} (b : ℕ) (f : ℕ → ℕ → ℕ) (at : ℕ) (r : Read) (rest : ℕ → Read)
+  followed-sound : {k part : Kind} (b : ℕ) (f : ℕ → ℕ → ℕ) (at : ℕ) (r : Read)
+      (rest : ℕ → Read)
       → ((v : ℕ) (u : Bool) (next : ℕ) → Wrote names n s part at v u next
       → Wrote names n s k at v u next)
       → ((v : ℕ) (u : Bool) (next : ℕ) (q : Read) → isAt s next b ≡ true

@@ -50,7 +50,8 @@ pub terms : Joins term factor '&' bitAnd
 unfolding reads
 terms = record { ranks = refl; reading = λ names n s f at. refl }
 
-module _ {names : List Name} {n : ℕ} {s : List ℕ} {k part : Kind} {b : ℕ} {g : ℕ → ℕ → ℕ} {at : ℕ}
+module _ {names : List Name} {n : ℕ} {s : List ℕ} {k part : Kind} {b : ℕ} {g : ℕ → ℕ → ℕ}
+    {at : ℕ}
     {r : Read} (joins : Joins k part b g) (first : Meant names n s part at r) where
   once : (f : ℕ) → 3 * (length s - at) + rank k ≤ f
       → reads names n s (suc f) k at ≡ followed s b (reads names n s f k) g r

@@ -60,7 +60,8 @@ setOf-lt zero p = omega arith
 setOf-lt (suc n) p = let b = bit-lt (p 0) in
     rw pow-succ' (omega (arith, setOf-lt n (λ k. p (suc k))))
 
-pub setOf-ext : (n : ℕ) (p q : ℕ → Bool) → ((l : ℕ) → l < n → p l ≡ q l) → setOf n p ≡ setOf n q
+pub setOf-ext : (n : ℕ) (p q : ℕ → Bool) → ((l : ℕ) → l < n → p l ≡ q l)
+    → setOf n p ≡ setOf n q
 unfolding setOf
 setOf-ext zero p q h = refl
 setOf-ext (suc n) p q h = rw (

@@ -118,7 +118,8 @@ boundOf-two (a ∷ []) h = absurd (omega arith)
 boundOf-two (a ∷ b ∷ []) h = refl
 boundOf-two (a ∷ b ∷ c ∷ xs) h = absurd (omega arith)
 
-pub boundOf-other : (xs : List ℕ) → (length xs ≡ 1 → ⊥) → (length xs ≡ 2 → ⊥) → boundOf xs ≡ Wrong
+pub boundOf-other : (xs : List ℕ) → (length xs ≡ 1 → ⊥) → (length xs ≡ 2 → ⊥)
+    → boundOf xs ≡ Wrong
 unfolding boundOf
 boundOf-other [] h g = refl
 boundOf-other (a ∷ []) h g = absurd (h refl)

@@ -85,7 +85,8 @@ module _ (b : ℕ) where
   behind-append (x ∷ xs) ys h =
       let none = count-none x xs h in rw (none .0, behind-append xs ys (none .1))
 
-  pub split-append : (xs ys : List ℕ) → count b xs ≡ 0 → split b (xs ++ b ∷ ys) ≡ xs ∷ split b ys
+  pub split-append : (xs ys : List ℕ) → count b xs ≡ 0
+      → split b (xs ++ b ∷ ys) ≡ xs ∷ split b ys
   unfolding split
   split-append [] ys h = rw (eq-eqb b b refl)
   split-append (x ∷ xs) ys h =
