@@ -1,9 +1,9 @@
 -- Reading a condition at a place of the bytes s, as the code does. `Condition` and `Judge` say what
 -- is right; a reader need not believe this file. The fuel is enough where it is more than three for
 -- each byte left, and two more.
-use Prim.Native.Nat.{ℕ, zero, suc, _+_, _*_, _-_, _^_, _<_}
+use Prim.Native.Nat.{ℕ, zero, suc, _+_, _*_, _-_, _<_}
 use mathlib.Core.Bool.{Bool, true, false, not, _||_, cond}
-use mathlib.Core.List.{List, [], _∷_}
+use mathlib.Core.List.{List}
 use mathlib.Core.Path.{_≡_}
 use lib.Dec.{ltb, eqb}
 use lib.ListN.{getD, length, take, drop}

@@ -4,7 +4,7 @@ use mathlib.Core.Bool.{true, false}
 use mathlib.Core.List.{List, [], _∷_, _++_}
 use mathlib.Core.Logic.{_⊎_}
 use mathlib.Core.Path.{_≡_}
-use lib.ListN.{length, getD, drop}
+use lib.ListN.{length, getD}
 use Rattle.table.specs.Valid.{tableFits, rowsOf}
 use Rattle.table.specs.declared.Table.{Table}
 use Rattle.traces.specs.System.{System}
@@ -17,7 +17,7 @@ use Rattle.step.specs.declared.Phase.{Phase}
 use Rattle.step.specs.Tick.{startPhases}
 use Rattle.search.specs.State.{packed}
 use Rattle.search.specs.Answer.{Lent, Searched, roomOf, systemOf, entriesWithin, filled, cleared}
-use Rattle.search.specs.Answer.{traced, refusedFound, soundFound, trappedFound}
+use Rattle.search.specs.Answer.{atFront, traced, refusedFound, soundFound, trappedFound}
 
 -- Demand 3 in its own words, over traces. "Some unbroken trace has a number of ticks after which
 -- every extension is broken": w is such a trace and n such a number. "An extension of a trace by n
@@ -75,7 +75,7 @@ pub record TrapShown (table : Table) (lent : Lent) (n : ℕ) (a : Searched) : Ty
   pub short : length trace ≤ length (lent .trace)
   pub found : a .found ≡ trappedFound n trace ticks
   -- "The trace buffer holds it from the front, the rest unchanged."
-  pub buffer : a .lent .trace ≡ trace ++ drop (length trace) (lent .trace)
+  pub buffer : a .lent .trace ≡ atFront trace (lent .trace)
 
 -- or that this "trace is longer than its buffer".
 pub record TrapRefused (table : Table) (lent : Lent) (a : Searched) : Type 0 where

@@ -1,12 +1,12 @@
 -- Parts of a slice, as the logic has them, and as the definitions do. Assumes nothing.
-use Prim.Native.Nat.{ℕ, _+_, _-_, _≤_, _<_}
+use Prim.Native.Nat.{ℕ, _-_}
 use native.Mathlib.Omega.{arith}
 use mathlib.Core.List.{List}
-use mathlib.Core.Path.{_≡_, sym, _∙_}
+use mathlib.Core.Path.{_≡_, sym}
 use lib.ListN.{length, take, drop, length-drop}
 use lib.Seq.{take-all}
-use Rattle.text.specs.Split.{front, behind, count}
-use Rattle.text.proofs.Splits.{front-take, front-length}
+use Rattle.text.specs.Split.{front}
+use Rattle.text.proofs.Splits.{front-take}
 
 -- `&l[a..]`.
 pub rest-whole : (l : List ℕ) (a : ℕ) → take (length l - a) (drop a l) ≡ drop a l

@@ -1,8 +1,8 @@
 -- A signal's name, kept as its letters and then zeros.
 use Prim.Native.Nat.{ℕ, suc}
-use mathlib.Core.Bool.{Bool, true, false, _&&_, not, cond}
+use mathlib.Core.Bool.{Bool, true, _&&_, not, cond}
 use mathlib.Core.List.{List, [], _∷_}
-use lib.Dec.{leb, eqb}
+use lib.Dec.{leb}
 use lib.ListN.{drop}
 use Rattle.letters.specs.Lists.{every, some, sameBytes}
 use Rattle.table.specs.Row.{isZero}

@@ -1,18 +1,17 @@
 -- Exact and settled lost numbers exist beside finished entries, and they are the computed ones.
 -- Assumes nothing.
-use Prim.Native.Nat.{ℕ, zero, suc, _+_, _-_, _≤_, _<_}
+use Prim.Native.Nat.{ℕ, zero, suc, _+_, _≤_, _<_}
 use native.Mathlib.Omega.{arith}
 use native.Mathlib.Decide.{decLt, ℕ-discrete}
-use mathlib.Core.Bool.{Bool, true, false}
+use mathlib.Core.Bool.{true}
 use mathlib.Core.Logic.{_⊎_, _≢_}
 use mathlib.Core.Logic._⊎_.{inl, inr}
-use mathlib.Core.Path.{_≡_, refl, sym, ap, subst, _∙_}
+use mathlib.Core.Path.{_≡_, refl, sym, _∙_}
 use Rattle.traces.specs.System.{System, Lawful}
-use Rattle.traces.specs.Doomed.{Lost, Doomed, maxBelow}
+use Rattle.traces.specs.Doomed.{Lost, maxBelow}
 use Rattle.traces.specs.Numbers.{knownBelow, Closed, Exact, GoesOn, Settled, Gives}
 use Rattle.traces.specs.Least.{lostWithin}
 use Rattle.traces.proofs.Numbers.{all-or-some}
-use Rattle.traces.proofs.Runs.{not-both}
 use Rattle.traces.proofs.Doomed.{lost-doomed, lost-unique}
 use Rattle.traces.proofs.Losses.{exact-begin, exact-store, knownBelow-le, knownBelow-store}
 use Rattle.traces.proofs.Losses.{unknown-not-doomed}
