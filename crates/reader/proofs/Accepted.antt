@@ -23,18 +23,18 @@ use Rattle.conditions.specs.Condition.{nameOf}
 use Rattle.reader.specs.declared.Reading.{Reading}
 use Rattle.reader.specs.declared.header.Signals.{Signals}
 use Rattle.reader.specs.declared.row.RowRead.{RowRead}
-use Rattle.reader.specs.Lines.{LF, lines}
+use Rattle.text.specs.Lines.{LF, lines, ended, joined}
 use Rattle.reader.specs.Header.{PNP, version1, isDigit16, headerNumber, signalsWord, isName}
 use Rattle.reader.specs.Header.{namesFrom, signalsNumber, signalsAnswer, signalsRefused}
 use Rattle.reader.specs.Row.{rowAnswer}
 use Rattle.reader.specs.File.{Rows, good, bad, behindRow, rowOf, rowsFrom, rowsReading}
 use Rattle.reader.specs.File.{rowsAnswer, tableFrom, refusedFile, behindSignals, bodyAnswer}
 use Rattle.reader.specs.File.{fileAnswer, readAnswer}
-use Rattle.reader.specs.Grammar.{ended, joined, Each, none, and, IsRow, IsFile, accepted}
+use Rattle.reader.specs.Grammar.{Each, none, and, IsRow, IsFile, accepted}
 use Rattle.reader.proofs.FileLaws.{read-lines}
-use Rattle.reader.proofs.Joins.{Free, none as no-piece, and as and-piece, split-joined}
-use Rattle.reader.proofs.Joins.{rejoined, joined-split, joined-free, passing-free}
-use Rattle.reader.proofs.Joins.{lines-ended, ended-lines, ended-last}
+use Rattle.text.proofs.Joins.{Free, none as no-piece, and as and-piece, split-joined}
+use Rattle.text.proofs.Joins.{rejoined, joined-split, joined-free, passing-free}
+use Rattle.text.proofs.Joins.{lines-ended, ended-lines, ended-last}
 use Rattle.reader.proofs.Rules.{row-read, row-free, row-accepted, each-length}
 
 -- The rows.

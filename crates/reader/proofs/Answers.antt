@@ -26,7 +26,7 @@ use Rattle.conditions.proofs.Judging.{judge-number}
 use Rattle.reader.specs.declared.header.Signals.{Signals}
 use Rattle.reader.specs.declared.row.Field.{Field}
 use Rattle.reader.specs.declared.row.RowRead.{RowRead}
-use Rattle.reader.specs.Lines.{LF, lines}
+use Rattle.text.specs.Lines.{LF, lines}
 use Rattle.reader.specs.Header.{PNP, version1, isDigit16, headerNumber, signalsWord, isName}
 use Rattle.reader.specs.Header.{signalsNumber, signalsAnswer, signalsRefused, wordsBehind}
 use Rattle.reader.specs.Header.{namesFrom}

@@ -16,32 +16,20 @@ use Rattle.table.specs.Limits.{mostRows}
 use Rattle.table.specs.declared.Outcome.the-variants.{Accepted}
 use Rattle.table.specs.declared.Name.{Name}
 use Rattle.table.specs.declared.Row.{Row}
+use Rattle.text.specs.Lines.{LF, lines}
 use Rattle.text.specs.Split.{count, split, front, behind}
+use Rattle.text.proofs.Joins.{lines-cons}
 use Rattle.text.proofs.Splits.{front-whole, behind-drop}
 use Rattle.reader.proofs.Parts.{rest-whole}
 use Rattle.reader.proofs.SignalLaws.{added-few, length-none}
 use Rattle.reader.specs.declared.header.Signals.{Signals}
 use Rattle.reader.specs.declared.row.RowRead.{RowRead}
-use Rattle.reader.specs.Lines.{LF, prefixed, lines}
 use Rattle.reader.specs.Row.{rowFrom, rowAnswer}
 use Rattle.reader.specs.File.{noRule, Rows, good, bad, behindRow, rowOf, rowsFrom}
 use Rattle.reader.specs.File.{rowsReading, rowsAnswer, refusedFile, tableFrom}
 use Rattle.reader.specs.Gathering.{gathered}
 use Rattle.reader.specs.File.{behindSignals, bodyAnswer, fileAnswer, readAnswer}
 use Rattle.reader.specs.Header.{headerNumber, signalsAnswer}
-
--- The first line, and the others.
-pub lines-cons : (xs : List ℕ) → 0 < length xs → lines xs ≡ front LF xs ∷ lines (behind LF xs)
-unfolding lines front behind
-lines-cons [] h = absurd (omega arith)
-lines-cons (x ∷ xs) h = go (eqb x LF) xs (lines-cons xs)
-  where
-    go : (b : Bool) (ys : List ℕ) → (0 < length ys → lines ys ≡ front LF ys ∷ lines (behind LF ys))
-        → cond b ([] ∷ lines ys) (prefixed x (lines ys))
-        ≡ cond b [] (x ∷ front LF ys) ∷ lines (cond b ys (behind LF ys))
-    go true ys ih = refl
-    go false [] ih = refl
-    go false (y ∷ ys) ih = ap (prefixed x) (ih (omega arith))
 
 behind-none : (xs : List ℕ) → count LF xs ≡ 0 → behind LF xs ≡ []
 unfolding count behind

@@ -7,7 +7,6 @@ pub mod HeaderLaws
 pub mod SignalLaws
 pub mod RowLaws
 pub mod FileLaws
-pub mod Joins
 pub mod Rules
 pub mod Accepted
 pub mod Answers

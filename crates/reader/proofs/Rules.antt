@@ -30,17 +30,17 @@ use Rattle.conditions.proofs.Conditions.{judge-means, judge-letters, judge-shal
 use Rattle.reader.specs.declared.row.Field.{Field}
 use Rattle.reader.specs.declared.row.Field.the-variants.{Value}
 use Rattle.reader.specs.declared.row.RowRead.{RowRead}
-use Rattle.reader.specs.Lines.{LF}
+use Rattle.text.specs.Lines.{LF, joined}
 use Rattle.reader.specs.Row.{comma, ruleWord, isBound, fieldOf, fieldsOf, faultOf, firstFault}
 use Rattle.reader.specs.Row.{judgedField, ticksField}
 use Rattle.reader.specs.Row.{valueOf, setsFrom, boundsFrom, rowFrom, ordered, isRule}
 use Rattle.reader.specs.Row.{rowRefused, rowFields, rowAnswer}
 use Rattle.reader.specs.File.{rowOf}
-use Rattle.reader.specs.Grammar.{joined, Each, none, and, IsCondition, IsRow}
+use Rattle.reader.specs.Grammar.{Each, none, and, IsCondition, IsRow}
 use Rattle.conditions.proofs.Judging.{judge-some}
 use Rattle.reader.proofs.RowLaws.{rule-commas}
-use Rattle.reader.proofs.Joins.{Free, none as no-piece, and as and-piece, split-joined}
-use Rattle.reader.proofs.Joins.{rejoined, joined-split, joined-free, passing-free}
+use Rattle.text.proofs.Joins.{Free, none as no-piece, and as and-piece, split-joined}
+use Rattle.text.proofs.Joins.{rejoined, joined-split, joined-free, passing-free}
 
 -- The bytes of conditions.
 abbrev inCondition : ℕ → Bool

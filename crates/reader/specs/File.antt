@@ -15,7 +15,7 @@ use Rattle.text.specs.Split.{split}
 use Rattle.reader.specs.declared.Reading.{Reading}
 use Rattle.reader.specs.declared.header.Signals.{Signals}
 use Rattle.reader.specs.declared.row.RowRead.{RowRead}
-use Rattle.reader.specs.Lines.{LF, lines}
+use Rattle.text.specs.Lines.{LF, lines}
 use Rattle.reader.specs.Header.{noName, headerNumber, signalsAnswer}
 use Rattle.reader.specs.Row.{rowFrom, rowAnswer}
 

@@ -13,23 +13,13 @@ use Rattle.table.specs.declared.Name.{Name}
 use Rattle.table.specs.declared.Row.{Row}
 use Rattle.table.specs.declared.Table.{Table}
 use Rattle.text.specs.Bounds.{decimal}
+use Rattle.text.specs.Lines.{ended, joined}
 use Rattle.conditions.specs.Condition.{nameOf, Means}
 use Rattle.conditions.specs.Depth.{Shallow}
 use Rattle.reader.specs.declared.Reading.{Reading}
-use Rattle.reader.specs.Lines.{LF}
 use Rattle.reader.specs.Header.{PNP, version1, signalsWord, isName, namesFrom}
 use Rattle.reader.specs.Row.{comma, ruleWord}
 use Rattle.reader.specs.File.{tableFrom, refusedFile}
-
--- "Lines end with LF."
-unfoldable pub ended : List (List ℕ) → List ℕ
-ended [] = []
-ended (line ∷ more) = line ++ LF ∷ ended more
-
--- Pieces with a byte between each two.
-unfoldable pub joined : ℕ → List ℕ → List (List ℕ) → List ℕ
-joined b piece [] = piece
-joined b piece (next ∷ more) = piece ++ b ∷ joined b next more
 
 -- Two lists of one length, each place of one to the same place of the other.
 pub data Each {A B : Type 0} (R : A → B → Type 0) : List A → List B → Type 0 where

@@ -1,7 +1,6 @@
--- The reader. Read `Grammar` (the accepted files, and the places of refusals); then `Lines`,
--- `Header`, `Row`, `File` (which number and line each other file gets). `Gathering` follows the
+-- The reader. Read `Grammar` (the accepted files, and the places of refusals); then `Header`,
+-- `Row`, `File` (which number and line each other file gets). `Gathering` follows the
 -- code, and a reader need not believe it.
-pub mod Lines
 pub mod Header
 pub mod Row
 pub mod File

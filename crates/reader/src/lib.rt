@@ -18,7 +18,7 @@ ghost use mathlib.Core.Path.{_≡_};
 ghost use Prim.Native.Nat.{_+_, min};
 ghost use lib.ListN.{length};
 ghost use Rattle.reader.specs.Row.{rowFrom};
-ghost use Rattle.reader.specs.Lines.{lines};
+ghost use Rattle.text.specs.Lines.{lines};
 ghost use Rattle.reader.specs.File.{emptyTable, refusedFile, tableFrom, rowsAnswer};
 ghost use Rattle.reader.specs.Gathering.{gathered};
 ghost use Rattle.reader.specs.File.{bodyAnswer, readAnswer};

@@ -14,16 +14,11 @@ use Rattle.letters.proofs.Lists.{and-left, and-right, every-append}
 use Rattle.text.specs.Bounds.{digits, decimal, IsBound}
 use Rattle.text.specs.Bounds.{within, oneDigit, twoDigits, boundOf}
 use Rattle.text.specs.declared.Bound.the-variants.{Value, Wrong}
+use Rattle.text.proofs.Decimals.{decimal-few, decimal-more}
 
--- Numbers of one digit and of two.
-decimal-one : (n : ℕ) → n < 10 → decimal n ≡ (48 + n) ∷ []
-unfolding decimal digits
-decimal-one n h = rw (lt-ltb n 10 h)
-
+-- A number of two digits.
 decimal-two : (n : ℕ) → 10 ≤ n → n < 100 → decimal n ≡ (48 + n / 10) ∷ (48 + n % 10) ∷ []
-unfolding decimal digits
-decimal-two zero h g = absurd (omega arith)
-decimal-two (suc n) h g = rw (le-ltb (suc n) 10 h, lt-ltb (suc n / 10) 10 (omega arith))
+decimal-two n h g = decimal-more n h ∙ rw (decimal-few (n / 10) (omega arith))
 
 pub within-true : (a b x : ℕ) → a ≤ x → x ≤ b → within a b x ≡ true
 within-true a b x h g = rw (le-leb a x h, le-leb x b g)
@@ -38,7 +33,7 @@ boundOf-complete xs n h = go (decLt n 10)
         let value : 48 + n - 48 ≡ n = omega arith in
         rw (
           ← h .bytes,
-          decimal-one n few,
+          decimal-few n few,
           within-true 48 57 (48 + n) (omega arith) (omega arith),
           value,
         )
@@ -75,7 +70,7 @@ oneDigit-right a n e =
     let told = cond-value (within 48 57 a) (a - 48) n e in
     let digit = within-bounds 48 57 a (told .0) in
     let same : 48 + n ≡ a = omega arith in
-    record { small = omega arith; bytes = decimal-one n (omega arith) ∙ rw same }
+    record { small = omega arith; bytes = decimal-few n (omega arith) ∙ rw same }
 
 twoDigits-right : (a b n : ℕ) → twoDigits a b ≡ Value n → IsBound (a ∷ b ∷ []) n
 twoDigits-right a b n e =

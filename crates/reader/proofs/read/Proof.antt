@@ -5,7 +5,7 @@ use mathlib.Core.List.{List}
 use mathlib.Core.Path.{_≡_, sym, ap, _∙_}
 use lib.ListN.{length, getD}
 use Rattle.text.specs.Split.{front}
-use Rattle.reader.specs.Lines.{LF, lines}
+use Rattle.text.specs.Lines.{LF, lines}
 use Rattle.reader.specs.Header.{headerNumber}
 use Rattle.reader.specs.File.{bodyAnswer}
 use Rattle.reader.proofs.Parts.{part-front}

@@ -4,7 +4,7 @@ use mathlib.Core.List.{List}
 use mathlib.Core.Path.{_≡_, sym, ap, _∙_}
 use lib.ListN.{length}
 use Rattle.text.specs.Split.{split, front}
-use Rattle.reader.specs.Lines.{LF, lines}
+use Rattle.text.specs.Lines.{LF, lines}
 use Rattle.reader.specs.Header.{signalsAnswer}
 use Rattle.reader.specs.File.{rowsAnswer}
 use Rattle.reader.proofs.Parts.{part-front}

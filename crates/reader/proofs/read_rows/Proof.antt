@@ -15,7 +15,7 @@ use lib.ListN.{length, take, drop, length-drop}
 use Rattle.table.specs.declared.Row.{Row}
 use Rattle.text.specs.Split.{front}
 use Rattle.text.proofs.Splits.{front-length}
-use Rattle.reader.specs.Lines.{LF}
+use Rattle.text.specs.Lines.{LF}
 use Rattle.reader.specs.declared.row.RowRead.{RowRead}
 use Rattle.reader.proofs.Parts.{rest-whole, part-front}
 use Rattle.reader.proofs.FileLaws.{Gathering, gathering-starts, gathering-step}

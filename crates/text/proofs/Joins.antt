@@ -12,12 +12,10 @@ use lib.ListN.{length, getD, length-append}
 use lib.Seq.{getD-append-seam, getD-append-add}
 use Rattle.letters.specs.Lists.{every}
 use Rattle.letters.proofs.Lists.{and-left, and-right}
+use Rattle.text.specs.Lines.{LF, prefixed, lines, ended, joined}
 use Rattle.text.specs.Split.{count, longer, split, front, behind}
 use Rattle.text.proofs.Splits.{count-append, split-length, split-front, split-append}
 use Rattle.text.proofs.Splits.{front-append, behind-append}
-use Rattle.reader.specs.Lines.{LF, prefixed, lines}
-use Rattle.reader.specs.Grammar.{ended, joined}
-use Rattle.reader.proofs.FileLaws.{lines-cons}
 
 -- A byte stands in none of the pieces.
 pub data Free (b : ℕ) : List (List ℕ) → Type 0 where
@@ -62,7 +60,19 @@ joined-free b c e piece (next ∷ more) (and h f) =
     let rest = joined-free b c e next more f in
     count-append c piece (b ∷ joined b next more) ∙ rw (h, e, rest)
 
--- Lines.
+-- The first line, and the others.
+pub lines-cons : (xs : List ℕ) → 0 < length xs → lines xs ≡ front LF xs ∷ lines (behind LF xs)
+unfolding lines front behind
+lines-cons [] h = absurd (omega arith)
+lines-cons (x ∷ xs) h = go (eqb x LF) xs (lines-cons xs)
+  where
+    go : (b : Bool) (ys : List ℕ) → (0 < length ys → lines ys ≡ front LF ys ∷ lines (behind LF ys))
+        → cond b ([] ∷ lines ys) (prefixed x (lines ys))
+        ≡ cond b [] (x ∷ front LF ys) ∷ lines (cond b ys (behind LF ys))
+    go true ys ih = refl
+    go false [] ih = refl
+    go false (y ∷ ys) ih = ap (prefixed x) (ih (omega arith))
+
 lines-append : (line ys : List ℕ) → count LF line ≡ 0
     → lines (line ++ LF ∷ ys) ≡ line ∷ lines ys
 lines-append line ys h =

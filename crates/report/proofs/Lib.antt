@@ -1,0 +1,5 @@
+-- `Puts`, `Lines`: bytes and lines put one after the other. `Lengths`: how long a report's lines
+-- are.
+pub mod Puts
+pub mod Lines
+pub mod Lengths

@@ -1,0 +1,32 @@
+-- Lines put into a buffer, each with its end. Assumes nothing.
+use Prim.Native.Nat.{ℕ}
+use mathlib.Core.List.{List, [], _∷_, _++_, append-assoc}
+use mathlib.Core.Path.{_≡_, refl, sym, ap, _∙_}
+use Rattle.text.specs.Lines.{LF, ended}
+use Rattle.report.specs.Buffer.{Puts}
+use Rattle.report.proofs.Puts.{puts-append}
+
+pub ended-append : (xs ys : List (List ℕ)) → ended (xs ++ ys) ≡ ended xs ++ ended ys
+unfolding ended
+ended-append [] ys = refl
+ended-append (line ∷ xs) ys =
+    ap (λ (more : List ℕ). line ++ LF ∷ more) (ended-append xs ys)
+    ∙ sym (append-assoc line (LF ∷ ended xs) (ended ys))
+
+-- A line, and then others; and lines, and then others.
+module _ {at : ℕ} {buffer : List ℕ} {next : ℕ} {between : List ℕ} {end : ℕ} {exit : List ℕ} where
+  pub puts-line : (line : List ℕ) (more : List (List ℕ))
+      → Puts at (line ++ LF ∷ []) buffer next between → Puts next (ended more) between end exit
+      → Puts at (ended (line ∷ more)) buffer end exit
+  unfolding ended
+  puts-line line more first others =
+      rw (← append-assoc line (LF ∷ []) (ended more)) (puts-append first others)
+
+  pub puts-lines : (xs ys : List (List ℕ)) → Puts at (ended xs) buffer next between
+      → Puts next (ended ys) between end exit → Puts at (ended (xs ++ ys)) buffer end exit
+  puts-lines xs ys first others = rw (ended-append xs ys) (puts-append first others)
+
+pub puts-last : {at : ℕ} {buffer : List ℕ} {next : ℕ} {exit : List ℕ} (line : List ℕ)
+    → Puts at (line ++ LF ∷ []) buffer next exit → Puts at (ended (line ∷ [])) buffer next exit
+unfolding ended
+puts-last line p = p

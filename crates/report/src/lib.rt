@@ -1,0 +1,128 @@
+// The report, to the byte, of what the checker found. specs/Report.antt says what is right, for
+// every answer and every lent buffer.
+mod put;
+
+use table::Refusal;
+ghost use mathlib.Core.List.{[], _∷_, _++_};
+ghost use mathlib.Core.Path.{_≡_};
+ghost use lib.ListN.{length, take};
+ghost use Prim.Native.Nat.{_+_, _≤_};
+ghost use Rattle.text.specs.Bounds.{decimal};
+ghost use Rattle.text.specs.Lines.{LF as lineEnd, ended};
+ghost use Rattle.report.specs.Buffer.{written, Puts, Countable};
+ghost use Rattle.report.specs.Report.{refusedLine, sizeLines, tickLine, tickLines};
+ghost use Rattle.report.specs.Report.{trapLines, reportBytes};
+
+const LF: u8 = 10;
+
+// How many rows the table has, and how many states are reached.
+pub struct Size {
+    pub rules: u8,
+    pub count: u16,
+}
+
+// The trap: how many letters of the trace buffer lead into it, and the lost number there.
+pub struct Trap {
+    pub length: u16,
+    pub lost: u16,
+}
+
+// What a report tells.
+pub enum Answer {
+    Refused(Refusal),
+    Sound(Size),
+    Trapped(Size, Trap),
+}
+
+// A word, a number and the line's end.
+fn numbered(out: &mut [u8], at: usize, word: &[u8], n: u16) -> usize
+    requires { ⌜ Countable at (now word ++ decimal n ++ lineEnd ∷ []) ⌝ }
+    ensures { λ r. ⌜ Puts at (now (word .entry) ++ decimal n ++ lineEnd ∷ []) (now (out .entry)) r
+        (now (out .exit)) ⌝ }
+{
+    let number = put::word(out, at, word);
+    let end = put::decimal(out, number, n);
+    put::byte(out, end, LF)
+}
+
+fn tick_line(out: &mut [u8], at: usize, signals: u8, tick: u16, letter: u8) -> usize
+    requires { ⌜ Countable at (tickLine signals tick letter ++ lineEnd ∷ []) ⌝ }
+    ensures { λ r. ⌜ Puts at (tickLine signals tick letter ++ lineEnd ∷ []) (now (out .entry)) r
+        (now (out .exit)) ⌝ }
+{
+    let number = put::word(out, at, b"tick ");
+    let space = put::decimal(out, number, tick);
+    let first = put::byte(out, space, b' ');
+    let end = put::values(out, first, signals, letter);
+    put::byte(out, end, LF)
+}
+
+// A line for each of the first `length` letters of the trace.
+fn tick_lines(out: &mut [u8], at: usize, signals: u8, trace: &[u8], length: u16) -> usize
+    requires { ⌜ Countable at (ended (tickLines signals 1 (take length (now trace)))) ⌝ }
+    ensures { λ r. ⌜ Puts at (ended (tickLines signals 1 (take length (now (trace .entry)))))
+        (now (out .entry)) r (now (out .exit)) ⌝ }
+{
+    let mut next = at;
+    let mut tick: u16 = 0;
+    while tick < length {
+        let i = tick as usize;
+        if trace.len() <= i {
+            return next;
+        }
+        tick += 1;
+        next = tick_line(out, next, signals, tick, trace[i]);
+    }
+    next
+}
+
+// The lines behind the heading: the refusal; the table's size; and the trap.
+fn refused(out: &mut [u8], at: usize, refusal: Refusal) -> usize
+    requires { ⌜ at ≤ 100 ⌝ }
+    ensures { λ r. ⌜ Puts at (refusedLine (refusal .number) (refusal .line) ++ lineEnd ∷ [])
+        (now (out .entry)) r (now (out .exit)) ⌝ }
+{
+    let number = put::word(out, at, b"refused ");
+    let word = put::decimal(out, number, refusal.number as u16);
+    numbered(out, word, b" line ", refusal.line as u16)
+}
+
+fn sized(out: &mut [u8], at: usize, size: Size) -> usize
+    requires { ⌜ at ≤ 100 ⌝ }
+    ensures { λ r. ⌜ Puts at (ended (sizeLines size)) (now (out .entry)) r (now (out .exit)) ⌝ }
+    ensures { λ r. ⌜ r ≤ at + 31 ⌝ }
+{
+    let count = numbered(out, at, b"rules ", size.rules as u16);
+    numbered(out, count, b"configurations ", size.count)
+}
+
+fn trapped(out: &mut [u8], at: usize, signals: u8, trace: &[u8], trap: Trap) -> usize
+    requires { ⌜ at ≤ 1000 ⌝ }
+    ensures { λ r. ⌜ Puts at (ended (trapLines signals (now (trace .entry)) trap))
+        (now (out .entry)) r (now (out .exit)) ⌝ }
+{
+    let lost = tick_lines(out, at, signals, trace, trap.length);
+    numbered(out, lost, b"lost ", trap.lost)
+}
+
+// Writes the report from the buffer's front, and answers its length. A buffer that is shorter holds
+// as much as it takes; the rest of a longer one is unchanged.
+pub fn write(answer: Answer, signals: u8, trace: &[u8], out: &mut [u8]) -> usize
+    ensures { λ r. ⌜ r ≡ length (reportBytes signals (now (trace .entry)) answer) ⌝ }
+    ensures { λ _. ⌜ now (out .exit)
+        ≡ written (reportBytes signals (now (trace .entry)) answer) (now (out .entry)) ⌝ }
+{
+    let at = put::word(out, 0, b"PNP report\n");
+    match answer {
+        Answer::Refused(refusal) => refused(out, at, refusal),
+        Answer::Sound(size) => {
+            let verdict = sized(out, at, size);
+            put::word(out, verdict, b"verdict sound\n")
+        }
+        Answer::Trapped(size, trap) => {
+            let verdict = sized(out, at, size);
+            let ticks = put::word(out, verdict, b"verdict trapped\n");
+            trapped(out, ticks, signals, trace, trap)
+        }
+    }
+}

@@ -1,0 +1,64 @@
+// Bytes, words and numbers put into a lent buffer from a place on: each answers the next place.
+// What the buffer has no place for is left out, and still counted.
+ghost use mathlib.Core.List.{[], _∷_, _++_};
+ghost use mathlib.Core.Path.{_≡_};
+ghost use lib.ListN.{set};
+ghost use Rattle.text.specs.Bounds.{decimal as decimalOf};
+ghost use Rattle.report.specs.Buffer.{Puts, Countable};
+ghost use Rattle.report.specs.Report.{values as valuesOf};
+
+fn store(out: &mut [u8], at: usize, b: u8)
+    ensures { λ _. ⌜ now (out .exit) ≡ set (now (out .entry)) at b ⌝ }
+{
+    if at < out.len() {
+        out[at] = b;
+    }
+}
+
+pub(crate) fn byte(out: &mut [u8], at: usize, b: u8) -> usize
+    requires { ⌜ Countable at (b ∷ []) ⌝ }
+    ensures { λ r. ⌜ Puts at (b ∷ []) (now (out .entry)) r (now (out .exit)) ⌝ }
+{
+    store(out, at, b);
+    at + 1
+}
+
+pub(crate) fn word(out: &mut [u8], at: usize, bytes: &[u8]) -> usize
+    requires { ⌜ Countable at (now bytes) ⌝ }
+    ensures { λ r. ⌜ Puts at (now (bytes .entry)) (now (out .entry)) r (now (out .exit)) ⌝ }
+{
+    let mut i: usize = 0;
+    while i < bytes.len() {
+        store(out, at + i, bytes[i]);
+        i += 1;
+    }
+    at + i
+}
+
+// A number in base ten.
+pub(crate) fn decimal(out: &mut [u8], at: usize, n: u16) -> usize
+    requires { ⌜ Countable at (decimalOf n) ⌝ }
+    ensures { λ r. ⌜ Puts at (decimalOf n) (now (out .entry)) r (now (out .exit)) ⌝ }
+{
+    if n < 10 {
+        return byte(out, at, b'0' + n as u8);
+    }
+    let last = decimal(out, at, n / 10);
+    byte(out, last, b'0' + (n % 10) as u8)
+}
+
+// The value of each signal at a letter, `0` or `1`.
+pub(crate) fn values(out: &mut [u8], at: usize, signals: u8, letter: u8) -> usize
+    requires { ⌜ Countable at (valuesOf signals 0 letter) ⌝ }
+    ensures { λ r. ⌜ Puts at (valuesOf signals 0 letter) (now (out .entry)) r
+        (now (out .exit)) ⌝ }
+{
+    let mut rest = letter;
+    let mut k: u8 = 0;
+    while k < signals {
+        store(out, at + k as usize, b'0' + rest % 2);
+        rest = rest / 2;
+        k += 1;
+    }
+    at + k as usize
+}
