@@ -5,7 +5,7 @@ use native.Mathlib.Nat.{div-lt-iff-lt-mul}
 use native.Mathlib.Omega.{arith}
 use native.Mathlib.Numerals.{one-add}
 use mathlib.Core.Bool.{Bool, true, false}
-use mathlib.Core.Path.{_≡_, refl, sym, _∙_}
+use mathlib.Core.Path.{_≡_, refl, sym, ap, _∙_}
 use borrow.Author.Tests.{lt-ltb, ltb-true, eqb-false}
 use lib.Dec.{eqb, lit<}
 use lib.Pow.{pow-pos, pow-mono, shr-shr, shl-exact}
@@ -37,6 +37,9 @@ bit-eqb (suc (suc x)) p = absurd (omega arith)
 pub eqb-bit : (b : Bool) → eqb (bit b) 1 ≡ b
 eqb-bit true = refl
 eqb-bit false = refl
+
+pub bit-injective : (a b : Bool) → bit a ≡ bit b → a ≡ b
+bit-injective a b e = sym (eqb-bit a) ∙ ap (λ (x : ℕ). eqb x 1) e ∙ eqb-bit b
 
 -- What the code's `1 << k` is.
 pub one-shifted : (k : ℕ) → k < 64 → (1 * 2 ^ k) % 2 ^ 64 ≡ 2 ^ k

@@ -19,7 +19,7 @@ use Rattle.text.specs.Bounds.{within, decimal, IsBound, boundOf}
 use Rattle.text.specs.declared.Bound.{Bound}
 use Rattle.text.specs.declared.Bound.the-variants.{Value as Ticks, Wrong}
 use Rattle.text.proofs.Splits.{split-length}
-use Rattle.text.proofs.Bounds.{boundOf-complete, boundOf-right, decimal-within}
+use Rattle.text.proofs.Bounds.{boundOf-complete, boundOf-right, decimal-free}
 use Rattle.conditions.specs.Bytes.{'|', '&', '!', '0', '1', opening, closing}
 use Rattle.conditions.specs.Condition.{Kind, Cond, oneTerm, or, oneFactor, and as both, negated}
 use Rattle.conditions.specs.Condition.{named, never, always, grouped, text}
@@ -80,9 +80,6 @@ module _ (names : List Name) (n : ℕ) where
       passing-free inCondition b e xs
       (rw (← h .means .bytes) (text-in (h .means .tree)))
 
-  bound-free : (b : ℕ) → within 48 57 b ≡ false → (v : ℕ) → count b (decimal v) ≡ 0
-  bound-free b e v = passing-free (within 48 57) b e (decimal v) (decimal-within v)
-
   -- What a field holds.
   condition-value : (k : ℕ) → isBound k ≡ false → {xs : List ℕ} {v : ℕ}
       → IsCondition names n xs v
@@ -127,15 +124,15 @@ module _ (names : List Name) (n : ℕ) where
             and-piece (condition-free b e h₀)
             (and-piece (condition-free b e h₁)
             (and-piece (condition-free b e h₂)
-            (and-piece (bound-free b d (row .tmin))
-            (and-piece (bound-free b d (row .tmax))
-            (and-piece (bound-free b d (row .lmin))
-            (and-piece (bound-free b d (row .lmax))
+            (and-piece (decimal-free b d (row .tmin))
+            (and-piece (decimal-free b d (row .tmax))
+            (and-piece (decimal-free b d (row .lmin))
+            (and-piece (decimal-free b d (row .lmax))
             (and-piece (condition-free b e h₃)
             (and-piece (condition-free b e h₄)
             (and-piece (condition-free b e h₅)
-            (and-piece (bound-free b d (row .amin))
-            (and-piece (bound-free b d (row .amax)) no-piece)))))))))))
+            (and-piece (decimal-free b d (row .amin))
+            (and-piece (decimal-free b d (row .amax)) no-piece)))))))))))
 
     -- No LF is in it.
     pub row-free : count LF line ≡ 0

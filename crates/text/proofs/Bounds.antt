@@ -13,8 +13,10 @@ use Rattle.letters.specs.Lists.{every}
 use Rattle.letters.proofs.Lists.{and-left, and-right, every-append}
 use Rattle.text.specs.Bounds.{digits, decimal, IsBound}
 use Rattle.text.specs.Bounds.{within, oneDigit, twoDigits, boundOf}
+use Rattle.text.specs.Split.{count}
 use Rattle.text.specs.declared.Bound.the-variants.{Value, Wrong}
 use Rattle.text.proofs.Decimals.{decimal-few, decimal-more}
+use Rattle.text.proofs.Joins.{passing-free}
 
 -- A number of two digits.
 decimal-two : (n : ℕ) → 10 ≤ n → n < 100 → decimal n ≡ (48 + n / 10) ∷ (48 + n % 10) ∷ []
@@ -139,3 +141,6 @@ digits-within (suc k) n = go (decLt n 10) (digits-within k (n / 10))
 pub decimal-within : (n : ℕ) → every (within 48 57) (decimal n) ≡ true
 unfolding decimal
 decimal-within n = digits-within (suc n) n
+
+pub decimal-free : (b : ℕ) → within 48 57 b ≡ false → (n : ℕ) → count b (decimal n) ≡ 0
+decimal-free b e n = passing-free (within 48 57) b e (decimal n) (decimal-within n)

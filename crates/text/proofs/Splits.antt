@@ -85,6 +85,13 @@ module _ (b : ℕ) where
   behind-append (x ∷ xs) ys h =
       let none = count-none x xs h in rw (none .0, behind-append xs ys (none .1))
 
+  pub append-injective : (xs ys us vs : List ℕ) → count b xs ≡ 0 → count b us ≡ 0
+      → xs ++ b ∷ ys ≡ us ++ b ∷ vs → (xs ≡ us) × (ys ≡ vs)
+  append-injective xs ys us vs h g e = (
+    sym (front-append xs ys h) ∙ ap (front b) e ∙ front-append us vs g,
+    sym (behind-append xs ys h) ∙ ap (behind b) e ∙ behind-append us vs g,
+  )
+
   pub split-append : (xs ys : List ℕ) → count b xs ≡ 0
       → split b (xs ++ b ∷ ys) ≡ xs ∷ split b ys
   unfolding split

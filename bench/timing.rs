@@ -1,0 +1,275 @@
+//! Times `checktable` against `plain` and prints markdown. Every run is a process of its own, timed from its
+//! start to its end, with the table as standard input and a file as standard output. The programs take turns,
+//! so that what else the machine does falls on both. It stops where the two do not print the same report.
+//!
+//!     timing RUNS FOLDER CHECKTABLE PLAIN NOTHING TABLE...
+//!
+//! FOLDER takes reports and the tables that are made here; NOTHING is a program that does nothing.
+
+use std::fs::{self, File};
+use std::path::{Path, PathBuf};
+use std::process::{exit, Command};
+use std::time::Instant;
+
+/// Less work than this, in milliseconds, is lost in what a process start varies by.
+const LEAST_WORK: f64 = 0.1;
+
+struct Bench {
+    runs: usize,
+    checktable: PathBuf,
+    plain: PathBuf,
+    /// A file of no bytes, where reports go, and where tables that are made here go.
+    empty: PathBuf,
+    report: PathBuf,
+    made: PathBuf,
+}
+
+/// A program's times on a table in milliseconds, and its best on a file of no bytes in the same rounds.
+struct Times {
+    best: f64,
+    median: f64,
+    start: f64,
+}
+
+/// What was measured of a table, and what its file and its report say of it.
+struct Measured {
+    name: String,
+    states: Option<usize>,
+    letters: usize,
+    rows: usize,
+    checktable: Times,
+    plain: Times,
+}
+
+fn fail(word: String) -> ! {
+    eprintln!("timing: {word}");
+    exit(1)
+}
+
+fn read(path: &Path) -> String {
+    let bytes = fs::read(path);
+    let bytes = bytes.unwrap_or_else(|error| fail(format!("cannot read {}: {error}", path.display())));
+    String::from_utf8_lossy(&bytes).into_owned()
+}
+
+fn write(path: &Path, text: &str) {
+    fs::write(path, text).unwrap_or_else(|error| fail(format!("cannot write {}: {error}", path.display())));
+}
+
+/// One run: the milliseconds from start to end, and what was printed.
+fn run(program: &Path, table: &Path, report: &Path) -> (f64, String) {
+    let input = File::open(table);
+    let input = input.unwrap_or_else(|error| fail(format!("cannot read {}: {error}", table.display())));
+    let output = File::create(report);
+    let output = output.unwrap_or_else(|error| fail(format!("cannot write {}: {error}", report.display())));
+    let began = Instant::now();
+    let ended = Command::new(program).stdin(input).stdout(output).status();
+    let took = began.elapsed().as_secs_f64() * 1e3;
+    match ended {
+        Ok(status) if status.success() => (took, read(report)),
+        Ok(status) => fail(format!("on {} {} ended with {status}", table.display(), program.display())),
+        Err(error) => fail(format!("cannot start {}: {error}", program.display())),
+    }
+}
+
+/// Shows where two reports part, and ends.
+fn differ(table: &Path, checktable: &str, plain: &str) -> ! {
+    let same = checktable.lines().zip(plain.lines()).take_while(|(one, other)| one == other).count();
+    let line = |report: &str| report.lines().nth(same).unwrap_or("nothing more").to_string();
+    let (one, other) = (line(checktable), line(plain));
+    let place = format!("the reports differ on {}, line {}", table.display(), same + 1);
+    fail(format!("{place}: checktable prints '{one}', plain prints '{other}'"))
+}
+
+fn best_and_median(mut all: Vec<f64>) -> (f64, f64) {
+    all.sort_by(f64::total_cmp);
+    (all[0], all[all.len() / 2])
+}
+
+impl Bench {
+    fn measure(&self, table: &Path) -> Measured {
+        let expected = run(&self.plain, table, &self.report).1;
+        let programs = [&self.checktable, &self.plain];
+        let mut all = [(Vec::new(), Vec::new()), (Vec::new(), Vec::new())];
+        // The first round warms up: it is compared like the others, and not counted.
+        for round in 0..=self.runs {
+            for (program, (on_empty, on_table)) in programs.iter().zip(&mut all) {
+                let start = run(program, &self.empty, &self.report).0;
+                let (took, printed) = run(program, table, &self.report);
+                if printed != expected {
+                    differ(table, &printed, &expected);
+                }
+                if round > 0 {
+                    on_empty.push(start);
+                    on_table.push(took);
+                }
+            }
+        }
+        let [checktable, plain] = all.map(|(on_empty, on_table)| {
+            let (best, median) = best_and_median(on_table);
+            Times { best, median, start: best_and_median(on_empty).0 }
+        });
+        let text = read(table);
+        let signals = text.lines().nth(1).map_or(0, |line| line.split(' ').count() - 1);
+        Measured {
+            name: table.file_stem().unwrap_or_default().to_string_lossy().into_owned(),
+            states: expected.lines().find_map(|line| line.strip_prefix("configurations ")?.parse().ok()),
+            letters: 1 << signals,
+            rows: text.lines().count().saturating_sub(2),
+            checktable,
+            plain,
+        }
+    }
+
+    /// Measures a table that is made here; its signals are a, b and so on.
+    fn measure_made(&self, signals: usize, rows: &[String]) -> Measured {
+        let names: String = ('a'..).take(signals).map(|name| format!(" {name}")).collect();
+        write(&self.made, &format!("PNP 0001\nsignals{names}\n{}", rows.concat()));
+        self.measure(&self.made)
+    }
+
+    // ---- Tables that grow
+
+    /// States rise, with three rows and eight letters; the tables are sound.
+    fn by_states(&self) -> Vec<Measured> {
+        let tables = [[4, 4, 4], [8, 8, 4], [16, 8, 8], [16, 16, 16]];
+        let rows = tables.map(|[a, b, c]| [free('a', a), free('b', b), free('c', c)]);
+        rows.iter().map(|rows| self.measure_made(3, rows)).collect()
+    }
+
+    /// States rise, with two rows and two letters; every state is doomed, and the first one's lost number is
+    /// their count.
+    fn by_doomed(&self) -> Vec<Measured> {
+        let rows = [8, 16, 32, 64].map(|n| [periodic(n - 1, "a"), periodic(n + 1, "!a")]);
+        rows.iter().map(|rows| self.measure_made(1, rows)).collect()
+    }
+
+    /// Letters rise from 2 to 64, with two rows and always as many states; each signal is used.
+    fn by_letters(&self) -> Vec<Measured> {
+        let any = |signals| ('a'..).take(signals).map(String::from).collect::<Vec<_>>().join("|");
+        let rows = |signals| [periodic(63, &any(signals)), periodic(65, "1")];
+        (1..=6).map(|signals| self.measure_made(signals, &rows(signals))).collect()
+    }
+
+    /// Rows rise from 1 to 8, with 64 letters. One row has at most 181 states; from two rows on, each further
+    /// row repeats an earlier one, so that there are always as many states.
+    fn by_rows(&self) -> Vec<Measured> {
+        let two = [free('a', 64), free('b', 64)];
+        let mut tables = vec![vec![free('a', 181)]];
+        tables.extend((2..=8).map(|rows| two.iter().cycle().take(rows).cloned().collect()));
+        tables.iter().map(|rows| self.measure_made(6, rows)).collect()
+    }
+}
+
+/// A row with so many phases that its signal drives alone, and that never breaks.
+fn free(signal: char, phases: usize) -> String {
+    let trigger = (phases - 1).min(60);
+    let delay = (phases - 1 - trigger).min(60);
+    let action = phases - 1 - trigger - delay;
+    format!("rule {signal},{signal},{signal},{trigger},{trigger},{delay},{delay},1,1,1,{action},{action}\n")
+}
+
+/// A row that starts over by itself every so many ticks, and breaks if the condition does not hold then.
+fn periodic(ticks: usize, condition: &str) -> String {
+    let trigger = (ticks - 1).min(60);
+    let delay = ticks - 1 - trigger;
+    format!("rule 1,1,1,{trigger},{trigger},{delay},{delay},1,1,{condition},0,0\n")
+}
+
+// ---- What is printed
+
+fn thousands(number: usize) -> String {
+    match number {
+        0..=999 => number.to_string(),
+        _ => format!("{},{:03}", thousands(number / 1000), number % 1000),
+    }
+}
+
+impl Measured {
+    /// The columns that say which table it is.
+    fn shape(&self) -> String {
+        let states = self.states.map_or("refused".into(), thousands);
+        format!("{states} | {} | {}", self.letters, self.rows)
+    }
+
+    fn ratio(&self) -> f64 {
+        self.checktable.best / self.plain.best
+    }
+
+    /// The ratio of what is left when each program's own start is taken off.
+    fn work_ratio(&self) -> String {
+        match (self.checktable.work(), self.plain.work()) {
+            (Some(checktable), Some(plain)) => format!("{:.1}", checktable / plain),
+            _ => "-".into(),
+        }
+    }
+}
+
+impl Times {
+    /// The best time without the process start, if that is enough to be told from the start.
+    fn work(&self) -> Option<f64> {
+        Some(self.best - self.start).filter(|&work| work >= LEAST_WORK)
+    }
+
+    fn nanoseconds(&self, moves: usize) -> String {
+        self.work().map_or("-".into(), |work| format!("{:.0}", work * 1e6 / moves as f64))
+    }
+}
+
+fn print_tables(all: &[Measured]) {
+    print!("| Table | States | Letters | Rows | checktable best | median ");
+    println!("| plain best | median | Ratio | Less start |\n|-|-|-|-|-|-|-|-|-|-|");
+    for one in all {
+        let (ours, theirs) = (&one.checktable, &one.plain);
+        print!("| `{}` | {} | {:.2} | {:.2} ", one.name, one.shape(), ours.best, ours.median);
+        println!("| {:.2} | {:.2} | {:.1} | {} |", theirs.best, theirs.median, one.ratio(), one.work_ratio());
+    }
+}
+
+fn print_growth(title: &str, all: &[Measured]) {
+    print!("\n{title}\n\n| States | Letters | Rows | Moves | checktable best | ns a move ");
+    println!("| plain best | ns a move | Ratio | Less start |\n|-|-|-|-|-|-|-|-|-|-|");
+    for one in all {
+        let (ours, theirs) = (&one.checktable, &one.plain);
+        let moves = one.states.unwrap_or(0) * one.letters;
+        print!("| {} | {} | {:.2} | {} ", one.shape(), thousands(moves), ours.best, ours.nanoseconds(moves));
+        print!("| {:.2} | {} ", theirs.best, theirs.nanoseconds(moves));
+        println!("| {:.1} | {} |", one.ratio(), one.work_ratio());
+    }
+}
+
+fn main() {
+    let words: Vec<String> = std::env::args().skip(1).collect();
+    let [runs, folder, checktable, plain, nothing, tables @ ..] = &words[..] else {
+        fail("usage: timing RUNS FOLDER CHECKTABLE PLAIN NOTHING TABLE...".into());
+    };
+    let runs = runs.parse().ok().filter(|&runs| runs > 0);
+    let runs = runs.unwrap_or_else(|| fail("RUNS is a number from 1 on".into()));
+    let folder = Path::new(folder);
+    let bench = Bench {
+        runs,
+        checktable: checktable.into(),
+        plain: plain.into(),
+        empty: folder.join("empty.pnp"),
+        report: folder.join("report"),
+        made: folder.join("made.pnp"),
+    };
+    write(&bench.empty, "");
+    let bare = (0..runs).map(|_| run(nothing.as_ref(), &bench.empty, &bench.report).0).collect();
+    let (best, median) = best_and_median(bare);
+    let start = bench.measure(&bench.empty);
+    let measured: Vec<_> = tables.iter().map(|table| bench.measure(table.as_ref())).collect();
+
+    println!("Milliseconds, with the start of the process; {runs} runs of each program on each table.\n");
+    println!("| Start alone | Best | Median |\n|-|-|-|");
+    println!("| a program that does nothing | {best:.2} | {median:.2} |");
+    for (name, times) in [("checktable", start.checktable), ("plain", start.plain)] {
+        println!("| `{name}` on a file of no bytes | {:.2} | {:.2} |", times.best, times.median);
+    }
+    println!();
+    print_tables(&measured);
+    print_growth("By states, sound:", &bench.by_states());
+    print_growth("By states, every state doomed:", &bench.by_doomed());
+    print_growth("By letters:", &bench.by_letters());
+    print_growth("By rows:", &bench.by_rows());
+}

@@ -1,0 +1,22 @@
+-- What is reported of a file that the reader refuses, and of one that it accepts. Assumes nothing.
+use Prim.Native.Nat.{ℕ}
+use mathlib.Core.List.{List}
+use mathlib.Core.Path.{_≡_}
+use Rattle.table.specs.declared.Outcome.the-variants.{Accepted, Refused}
+use Rattle.table.specs.declared.Refusal.{Refusal}
+use Rattle.reader.specs.declared.Reading.{Reading}
+use Rattle.reader.specs.File.{readAnswer}
+use Rattle.search.specs.Answer.{Lent}
+use Rattle.checker.specs.Answer.{behindReading, checkAnswer}
+
+module _ (bytes : List ℕ) (lent : Lent) {reading : Reading} (read : reading ≡ readAnswer bytes)
+  where
+    pub refused-checked : {refusal : Refusal} → reading .outcome ≡ Refused refusal
+        → checkAnswer bytes lent ≡ behindReading (Refused refusal) (reading .table) lent
+    unfolding checkAnswer
+    refused-checked e = rw (← read, e)
+
+    pub accepted-checked : reading .outcome ≡ Accepted
+        → checkAnswer bytes lent ≡ behindReading Accepted (reading .table) lent
+    unfolding checkAnswer
+    accepted-checked e = rw (← read, e)

@@ -1,0 +1,4 @@
+-- `Checking`: what is reported of a file, by what the reader makes of it. `Short`: how long a
+-- report can be.
+pub mod Checking
+pub mod Short

@@ -1,0 +1,80 @@
+// The checker: the bytes of a table file in, the bytes of its report out. specs/Answer.antt says
+// what is right, for every file and all lent memory.
+use report::Answer;
+use report::Size;
+use report::Trap;
+use search::Found;
+use search::Verdict;
+use table::Outcome;
+use table::Refusal;
+use table::Table;
+ghost use mathlib.Core.Path.{_≡_};
+ghost use lib.ListN.{length};
+ghost use Rattle.search.specs.Answer.{lentLists};
+ghost use Rattle.report.specs.Buffer.{written};
+ghost use Rattle.checker.specs.Answer.{answerOf, checkAnswer};
+
+// What the report says of what the search found in a table of so many rows.
+fn answer_of(rows: u8, found: Found) -> Answer
+    ensures { λ r. ⌜ r ≡ answerOf rows found ⌝ }
+{
+    let outcome = found.outcome;
+    match outcome {
+        Outcome::Refused(refusal) => Answer::Refused(refusal),
+        Outcome::Accepted => {
+            let size = Size {
+                rules: rows,
+                count: found.count,
+            };
+            let verdict = found.verdict;
+            match verdict {
+                Verdict::Sound => Answer::Sound(size),
+                Verdict::Trapped => {
+                    let trap = Trap {
+                        length: found.length,
+                        lost: found.lost,
+                    };
+                    Answer::Trapped(size, trap)
+                }
+                Verdict::Absent => Answer::Refused(Refusal { number: 0, line: 0 }),
+            }
+        }
+    }
+}
+
+// Reads the file, searches its table with the scratch and the trace buffer that are lent, writes
+// the report from the front of `out`, and answers the report's length. If that is more than `out`
+// holds, `out` has the report's front. The scratch of a refused file is unchanged.
+pub fn check(
+    bytes: &[u8],
+    states: &mut [u64],
+    befores: &mut [u16],
+    letters: &mut [u8],
+    lost: &mut [u16],
+    trace: &mut [u8],
+    out: &mut [u8],
+) -> usize
+    ensures { λ r. ⌜ r ≡ length (checkAnswer (now (bytes .entry)) (lentLists (now (states .entry))
+        (now (befores .entry)) (now (letters .entry)) (now (lost .entry)) (now (trace .entry)))
+        .report) ⌝ }
+    ensures { λ _. ⌜ now (out .exit) ≡ written (checkAnswer (now (bytes .entry))
+        (lentLists (now (states .entry)) (now (befores .entry)) (now (letters .entry))
+        (now (lost .entry)) (now (trace .entry))) .report) (now (out .entry)) ⌝ }
+    ensures { λ _. ⌜ lentLists (now (states .exit)) (now (befores .exit)) (now (letters .exit))
+        (now (lost .exit)) (now (trace .exit))
+        ≡ checkAnswer (now (bytes .entry)) (lentLists (now (states .entry))
+        (now (befores .entry)) (now (letters .entry)) (now (lost .entry)) (now (trace .entry)))
+        .lent ⌝ }
+{
+    let read = reader::read(bytes);
+    let outcome = read.outcome;
+    match outcome {
+        Outcome::Refused(refusal) => report::write(Answer::Refused(refusal), 0, &*trace, out),
+        Outcome::Accepted => {
+            let table = read.table;
+            let found = search::search(table, states, befores, letters, lost, trace);
+            let answer = answer_of(table.count, found);
+            report::write(answer, table.signals, &*trace, out)
+        }
+    }
+}
