@@ -1,0 +1,90 @@
+// Its arguments are files of tables/, two by two: a table and the report stored beside it. Of each
+// table it says whether the checker makes that report of it, and if not, what it makes.
+use libc::STDOUT_FILENO;
+ghost use Rattle.io.specs.Counts.{Counts};
+
+const ROOM: usize = 4096;
+
+const MOST_READ: usize = 5000;
+
+fn print(word: &[u8]) {
+    io::write_all(STDOUT_FILENO, word);
+}
+
+// Reads the file that argument i names: how many bytes it has, and 0 if it cannot be read.
+fn read_file(i: usize, file: &mut [u8]) -> usize
+    ensures { λ r. ⌜ Counts r (now (file .exit)) ⌝ }
+{
+    let mut path = io::buffer();
+    let length = os::arg(i, &mut path);
+    let fd = os::open_read(&path[..length]);
+    if fd < 0 {
+        return 0;
+    }
+    let n = io::read_full(fd, file);
+    libc::close(fd);
+    n
+}
+
+fn print_name(i: usize) {
+    let mut path = io::buffer();
+    let length = os::arg(i, &mut path);
+    print(&path[..length]);
+}
+
+fn compare(made: &[u8], stored: &[u8]) {
+    if (made.len() == stored.len()) & text::starts_with(made, stored) {
+        print(b": its report\n");
+    } else {
+        print(b": another report\n");
+        print(made);
+    }
+}
+
+fn check_file(file: &[u8], stored: &[u8]) {
+    let mut states = [0u64; ROOM];
+    let mut befores = [0u16; ROOM];
+    let mut letters = [0u8; ROOM];
+    let mut lost = [0u16; ROOM];
+    let mut trace = [0u8; ROOM];
+    let mut report = [0u8; MOST_READ];
+    let length = checker::check(
+        file,
+        &mut states,
+        &mut befores,
+        &mut letters,
+        &mut lost,
+        &mut trace,
+        &mut report,
+    );
+    if length <= MOST_READ {
+        compare(&report[..length], stored);
+    } else {
+        print(b": a longer report\n");
+    }
+}
+
+// Argument `table` names a table, and argument `report` its report.
+fn check_pair(table: usize, report: usize) {
+    let mut file = [0u8; MOST_READ];
+    let mut stored = [0u8; MOST_READ];
+    let length = read_file(table, &mut file);
+    let end = read_file(report, &mut stored);
+    print_name(table);
+    check_file(&file[..length], &stored[..end]);
+}
+
+fn main() {
+    let n = os::arg_count();
+    let mut table: usize = 0;
+    let mut i: usize = 1;
+    while i < n {
+        if table == 0 {
+            table = i;
+        } else {
+            check_pair(table, i);
+            table = 0;
+        }
+        i += 1;
+    }
+}
