@@ -28,9 +28,13 @@ abbrev pub byOutcome : Outcome → Verdict → Size → Trap → Answer
 byOutcome (Refused refusal) verdict size trap = SaysRefused refusal
 byOutcome Accepted verdict size trap = byVerdict verdict size trap
 
+-- "The `rules` line has the number of rows, the `configurations` line the count."
+abbrev pub sizeOf : ℕ → ℕ → Size
+sizeOf rows n = record { rules = rows; count = n }
+
 unfoldable pub answerOf : ℕ → Found → Answer
 answerOf rows found =
-    byOutcome (found .outcome) (found .verdict) (record { rules = rows; count = found .count })
+    byOutcome (found .outcome) (found .verdict) (sizeOf rows (found .count))
     (record { length = found .length; lost = found .lost })
 
 -- The report of a file, and the lent memory behind it.

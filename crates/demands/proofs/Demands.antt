@@ -4,12 +4,13 @@
 -- Assumes nothing.
 use Prim.Native.Nat.{ℕ, suc, _^_, _<_, _≤_}
 use mathlib.Core.Bool.{true, false}
-use mathlib.Core.List.{List, map}
+use mathlib.Core.List.{List, [], _∷_, _++_, map}
 use mathlib.Core.Logic.{_⊎_, _↔_}
 use mathlib.Core.Path.{_≡_, sym, ap, _∙_}
 use lib.ListN.{length, getD, take}
 use native.Mathlib.Nat.{lt-of-lt-of-le}
 use Rattle.letters.specs.Letter.{letters, letterFits, inSet}
+use Rattle.letters.specs.Lists.{every}
 use Rattle.letters.proofs.Sets.{in-setOf}
 use Rattle.table.specs.Row.{noRow}
 use Rattle.table.specs.Valid.{rulesFit, tableFits, rowsOf}
@@ -62,12 +63,25 @@ use Rattle.demands.specs.Searching.{Dead, Shown, CanGoOn, Fit, withEntri
 use Rattle.demands.specs.Searching.{TrapShown, TrapRefused, SameLengths, SameScratch}
 use Rattle.demands.specs.Searching.{ScratchShown, EarliestDoomed}
 use Rattle.demands.specs.Searching.RightAnswer.{is17, is20}
+use Rattle.text.specs.Bounds.{decimal}
+use Rattle.text.specs.Lines.{ended}
+use Rattle.reader.specs.File.{refusedFile}
+use Rattle.report.specs.declared.Answer.{Answer as Told}
+use Rattle.report.specs.Report.{heading, refusedLine, sizeLines, soundLine, trappedLine, tickLines}
+use Rattle.report.specs.Report.{lostWord, reportBytes, traceLength, Shows}
+use Rattle.report.proofs.Telling as T
+use Rattle.checker.specs.Answer.{sizeOf, checkAnswer, programLent}
+use Rattle.checker.proofs.Short as H
+use Rattle.demands.specs.Cases.{P as rowP, right, starred, Means}
+use Rattle.demands.specs.Cases.Case.{after}
 use Rattle.demands.proofs.Watching as W
 use Rattle.demands.proofs.Words as D
 use Rattle.demands.proofs.Searching as S
 use Rattle.demands.proofs.Entries as E
 use Rattle.demands.proofs.Alike as L
 use Rattle.demands.proofs.StateNumbers as N
+use Rattle.demands.proofs.Reporting as P
+use Rattle.demands.proofs.Starred as C
 
 -- The reader. Demand 1: any bytes are accepted with a table, or refused with a number, its line and
 -- an empty table.
@@ -93,7 +107,7 @@ module _ (bytes : List ℕ) (table : Table) where
   file-fits = F.file-fits bytes table
 
 -- A letter is in a condition's set exactly where the condition holds, whichever tree its bytes are
--- read as: "whatever parentheses and repeated `!` it has".
+-- read as.
 pub condition-meaning : (names : List Name) (n : ℕ) (xs : List ℕ) (set : ℕ)
     → IsCondition names n xs set → (tree : Cond choice) → text tree ≡ xs → (l : ℕ) → l < n
     → inSet set l ≡ holdsAt names tree l
@@ -356,3 +370,66 @@ module _ (one other : Table) (lent held : Lent) (n : ℕ) (fit : Fit one lent n)
   pub rows-show : take (searchAnswer one lent .found .length) (searchAnswer one lent .lent .trace)
       ≡ take (searchAnswer one lent .found .length) (searchAnswer other held .lent .trace)
   rows-show = L.rows-show one other lent held n fit passes signals rows room short
+
+-- The report. Different answers give different reports: to so many signals, what the bytes are the
+-- same of is the same answer, with the same trace.
+module _ (signals : ℕ) (one other : Told) (b c : List ℕ) (shows : Shows signals b one)
+    (tells : Shows signals c other)
+    (same : reportBytes signals b one ≡ reportBytes signals c other) where
+  pub same-answer : one ≡ other
+  same-answer = T.same-answer signals one other b c shows tells same
+
+  pub same-trace : take (traceLength one) b ≡ take (traceLength other) c
+  same-trace = T.same-trace signals one other b c shows tells same
+
+-- From the bytes of any file to the bytes of its report, in any lent memory. "A refused one prints
+-- the first line and `refused 13 line 3`, with its own number and line"; lent memory is unchanged.
+module _ (bytes : List ℕ) (lent : Lent) where
+  pub refused-report : (number line : ℕ) → readAnswer bytes ≡ refusedFile number line
+      → checkAnswer bytes lent
+      ≡ record { report = ended (heading ∷ refusedLine number line ∷ []); lent = lent }
+  refused-report = P.refused-report bytes lent
+
+  -- An accepted file's table is searched: there are more reached states than room, or the table is
+  -- sound, or it is trapped.
+  module _ (table : Table) (file : IsFile bytes table) where
+    pub searched-lent : checkAnswer bytes lent .lent ≡ searchAnswer table lent .lent
+    searched-lent = P.searched-lent bytes lent table file
+
+    pub many-report : ReachedMany (systemOf table) (suc (roomOf lent))
+        → checkAnswer bytes lent .report ≡ ended (heading ∷ refusedLine 20 0 ∷ [])
+    many-report = P.many-report bytes lent table file
+
+    -- "A sound table ends after `verdict sound`."
+    module _ (n : ℕ) (fit : Fit table lent n) where
+      pub sound-report : Sound (systemOf table)
+          → checkAnswer bytes lent .report
+          ≡ ended (heading ∷ sizeLines (sizeOf (table .count) n) ++ soundLine ∷ [])
+      sound-report = P.sound-report bytes lent table file n fit
+
+      pub trapped-report : (w : List ℕ) (k : ℕ) → Trapped (systemOf table) w k
+          → length w ≤ length (lent .trace)
+          → checkAnswer bytes lent .report
+          ≡ ended (heading ∷ sizeLines (sizeOf (table .count) n) ++ trappedLine
+          ∷ tickLines (table .signals) 1 w ++ (lostWord ++ decimal k) ∷ [])
+      trapped-report = P.trapped-report bytes lent table file n fit
+
+-- "The program lends room 4,096 and a trace buffer of as many bytes": it always shows the trace,
+-- never refused with 21, and its own buffer holds every report.
+pub program-room : roomOf programLent ≡ 4096
+program-room = P.program-room
+
+pub program-shows : (table : Table) (n : ℕ) → Fit table programLent n → (w : List ℕ) (k : ℕ)
+    → Trapped (systemOf table) w k → length w ≤ length (programLent .trace)
+program-shows table n fit w k trapped =
+    P.program-long (lt-of-lt-of-le (trace-low table programLent n fit w k trapped) (fit .room))
+
+pub program-short : (bytes : List ℕ) → length (checkAnswer bytes programLent .report) ≤ 70000
+program-short = H.program-short
+
+-- "The starred cases, gathered in a table that one proposition covers, over the definitions."
+pub starred-right : every right starred ≡ true
+starred-right = C.starred-right
+
+pub starred-means : (i : ℕ) → i < length starred → Means (getD starred i (after rowP [] 0))
+starred-means = C.starred-means

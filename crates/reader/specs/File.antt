@@ -5,7 +5,7 @@ use mathlib.Core.List.{List, [], _∷_, _++_}
 use lib.Dec.{ltb, eqb}
 use lib.ListN.{length, getD, take, replicate}
 use Rattle.letters.specs.Letter.{width}
-use Rattle.table.specs.Limits.{mostSignals, mostRows}
+use Rattle.table.specs.Limits.{mostBytes, mostSignals, mostRows}
 use Rattle.table.specs.Refusal.{refusedAt}
 use Rattle.table.specs.declared.Outcome.the-variants.{Accepted}
 use Rattle.table.specs.declared.Name.{Name}
@@ -95,5 +95,5 @@ fileAnswer (line ∷ more) = cond (eqb (headerNumber line) 0) (bodyAnswer more)
 unfoldable pub readAnswer : List ℕ → Reading
 readAnswer bytes =
     cond (eqb (length bytes) 0) (refusedFile 1 0)
-    (cond (ltb 4096 (length bytes)) (refusedFile 2 0)
+    (cond (ltb mostBytes (length bytes)) (refusedFile 2 0)
     (cond (eqb (getD bytes (length bytes - 1) 0) LF) (fileAnswer (lines bytes)) (refusedFile 3 0)))

@@ -6,7 +6,7 @@ use mathlib.Core.Path.{_≡_}
 use lib.ListN.{length}
 use Rattle.letters.specs.Letter.{width}
 use Rattle.letters.specs.Lists.{every}
-use Rattle.table.specs.Limits.{mostSignals, mostRows, mostTicks}
+use Rattle.table.specs.Limits.{mostBytes, mostSignals, mostRows, mostTicks}
 use Rattle.table.specs.Name.{allDistinct}
 use Rattle.table.specs.declared.Outcome.the-variants.{Accepted}
 use Rattle.table.specs.declared.Name.{Name}
@@ -33,8 +33,8 @@ module _ (names : List Name) (letters : ℕ) where
     pub shallow : Shallow xs
     pub means : Means names letters xs v false
 
-  -- "A row is `rule `, then twelve fields with eleven commas between them"; "a bound is 0 to 60
-  -- without a leading zero; least is not above most".
+  -- "Every further line is `rule `, then twelve fields with eleven commas between them"; "a bound is
+  -- 0 to 60 without a leading zero; least is not above most".
   pub record IsRow (line : List ℕ) (row : Row) : Type 0 where
     pub tse : List ℕ
     pub tc : List ℕ
@@ -59,7 +59,7 @@ pub record IsFile (bytes : List ℕ) (table : Table) : Type 0 where
   pub rules : List (List ℕ)
   pub rows : List Row
   pub lines-are : bytes ≡ ended ((PNP ++ version1) ∷ joined 32 signalsWord names ∷ rules)
-  pub bytes-few : length bytes ≤ 4096
+  pub bytes-few : length bytes ≤ mostBytes
   pub names-some : 1 ≤ length names
   pub names-few : length names ≤ mostSignals
   pub names-are : every isName names ≡ true

@@ -3,6 +3,9 @@ use Prim.Native.Nat.{ℕ}
 use mathlib.Core.Bool.{Bool, _&&_}
 use lib.Dec.{leb}
 
+abbrev pub mostBytes : ℕ
+mostBytes = 4096
+
 abbrev pub mostSignals : ℕ
 mostSignals = 6
 

@@ -85,24 +85,41 @@ fn one_row(row: Row) -> Table {
     }
 }
 
-// `code 61`, or `refused 19 line 0`.
+// One signal: the row `a,a,a,0,0,1,1,!a,!a,!a,0,0`.
+fn one_signal() -> Table {
+    let row = Row {
+        sets: [2, 2, 2, 1, 1, 1],
+        tmin: 0,
+        tmax: 0,
+        lmin: 1,
+        lmax: 1,
+        amin: 0,
+        amax: 0,
+    };
+    let mut table = one_row(row);
+    table.signals = 1;
+    table.names[1] = Name { letters: [0u8; 8] };
+    table
+}
+
+// `code 61`, and before it `refused 19 line 0, ` if the call is refused: the state is kept then.
 fn print_answer(ticked: Ticked) {
     let outcome = ticked.outcome;
     match outcome {
-        Outcome::Accepted => {
-            let watch = ticked.watch;
-            let slot = watch.slots[0];
-            let phase = slot.phase;
-            io::write_all(STDOUT_FILENO, b"code ");
-            io::print_decimal(STDOUT_FILENO, step::code(phase) as u64);
-        }
+        Outcome::Accepted => {}
         Outcome::Refused(refusal) => {
             io::write_all(STDOUT_FILENO, b"refused ");
             io::print_decimal(STDOUT_FILENO, refusal.number as u64);
             io::write_all(STDOUT_FILENO, b" line ");
             io::print_decimal(STDOUT_FILENO, refusal.line as u64);
+            io::write_all(STDOUT_FILENO, b", ");
         }
     }
+    let watch = ticked.watch;
+    let slot = watch.slots[0];
+    let phase = slot.phase;
+    io::write_all(STDOUT_FILENO, b"code ");
+    io::print_decimal(STDOUT_FILENO, step::code(phase) as u64);
     io::write_all(STDOUT_FILENO, b"\n");
 }
 
@@ -182,6 +199,9 @@ fn refusals() {
     };
     print_case(b"unused row", p, unused, &[1]);
     print_case(b"letter 4", p, start, &[1, 2, 4]);
+    print_case(b"letter 4", p, in_phase(step::phase_of(61)), &[2, 4]);
+    print_case(b"one signal", one_signal(), start, &[1, 0]);
+    print_case(b"one signal", one_signal(), start, &[1, 2]);
 }
 
 fn main() {

@@ -4,7 +4,7 @@
 // A tick is one pass over the rows: each is tested for number 17, its phase for number 18, and
 // moved on. The pass is a value, so that rows that are lent (`tick_rows`) and rows of a table value
 // (`tick_table`) go the same way.
-pub mod pass;
+mod pass;
 
 use step::Phase;
 use table::MOST_ROWS;

@@ -18,7 +18,7 @@ ghost use Rattle.watcher.specs.Pass.{begun, rowTaken, passOver, finished
 
 // Whether the rows (17) and the phases (18) passed so far, and the state with the rows so far moved
 // on.
-pub struct Pass {
+pub(crate) struct Pass {
     pub signals: u8,
     pub letter: u8,
     pub rules: bool,
@@ -27,7 +27,7 @@ pub struct Pass {
 }
 
 // A refusal with a number and no line: the state is the one that was passed.
-pub fn refused(number: u8, watch: Watch) -> Ticked
+pub(crate) fn refused(number: u8, watch: Watch) -> Ticked
     ensures { λ r. ⌜ r ≡ refusedWith number watch ⌝ }
 {
     Ticked {
@@ -53,7 +53,7 @@ fn rest_waiting(watch: Watch, n: usize) -> bool
 }
 
 // Before the first of n rows: what the counts and the unused rows say.
-pub fn begin(signals: u8, n: usize, watch: Watch, letter: u8) -> Pass
+pub(crate) fn begin(signals: u8, n: usize, watch: Watch, letter: u8) -> Pass
     ensures { λ r. ⌜ r ≡ begun signals n watch letter ⌝ }
 {
     Pass {
@@ -66,7 +66,7 @@ pub fn begin(signals: u8, n: usize, watch: Watch, letter: u8) -> Pass
 }
 
 // Row i is tested and moved on. A row beyond the limit is passed by: `begin` has turned it down.
-pub fn take_row(pass: Pass, i: usize, row: Row) -> Pass
+pub(crate) fn take_row(pass: Pass, i: usize, row: Row) -> Pass
     ensures { λ r. ⌜ r ≡ rowTaken pass i row ⌝ }
 {
     if MOST_ROWS <= i {
@@ -89,7 +89,7 @@ pub fn take_row(pass: Pass, i: usize, row: Row) -> Pass
 }
 
 // The first n rows of a table value.
-pub fn over(rows: [Row; MOST_ROWS], n: usize, begun: Pass) -> Pass
+pub(crate) fn over(rows: [Row; MOST_ROWS], n: usize, begun: Pass) -> Pass
     ensures { λ r. ⌜ r ≡ passOver (take n rows) 0 begun ⌝ }
 {
     let mut pass = begun;
@@ -105,7 +105,7 @@ pub fn over(rows: [Row; MOST_ROWS], n: usize, begun: Pass) -> Pass
 }
 
 // After the last row: the first number that fits, or the state moved on.
-pub fn finish(pass: Pass, watch: Watch) -> Ticked
+pub(crate) fn finish(pass: Pass, watch: Watch) -> Ticked
     ensures { λ r. ⌜ r ≡ finished pass watch ⌝ }
 {
     let after = pass.watch;

@@ -1,0 +1,192 @@
+// The lists that are lent to a search: their lengths, the rubbish that they hold before it, and
+// whether they then hold what document 01 says.
+ghost use mathlib.Core.Path.{_≡_};
+ghost use Prim.Native.Nat.{_≤_};
+ghost use lib.ListN.{length};
+use crate::lists::get;
+use crate::random::below;
+use crate::random::mixed;
+use crate::second::Solved;
+use crate::second::in_part;
+
+// No list is longer.
+pub const LONGEST: usize = 512;
+
+fn capped(n: usize) -> usize
+    ensures { λ r. ⌜ r ≤ 512 ⌝ }
+{
+    if n < LONGEST { n } else { LONGEST }
+}
+
+fn one_less(n: usize) -> usize
+    requires { ⌜ n ≤ 512 ⌝ }
+    ensures { λ r. ⌜ r ≤ 512 ⌝ }
+{
+    if 0 < n { n - 1 } else { 0 }
+}
+
+// A length below n if it is to be short, else at least n, where LONGEST allows it.
+fn any_length(seed: u64, n: usize, short: bool) -> usize
+    ensures { λ r. ⌜ r ≤ 512 ⌝ }
+{
+    let own = mixed(seed);
+    let most = capped(n);
+    if short {
+        if own % 2 == 0 {
+            return one_less(most);
+        }
+        return capped(below(own, (most % 65536) as u16) as usize);
+    }
+    if own % 3 == 0 {
+        return capped(most + below(own, 300) as usize);
+    }
+    capped(most + (own % 2) as usize)
+}
+
+// The lengths of the five lent lists.
+pub struct Lengths {
+    pub states: usize,
+    pub predecessors: usize,
+    pub letters: usize,
+    pub lost: usize,
+    pub trace: usize,
+}
+
+// Lengths for a table: now and then one of the lists is too short for it.
+pub fn any_lengths(seed: u64, solved: Solved) -> Lengths
+    ensures { λ r. ⌜ r .states ≤ 512 ⌝ }
+    ensures { λ r. ⌜ r .predecessors ≤ 512 ⌝ }
+    ensures { λ r. ⌜ r .letters ≤ 512 ⌝ }
+    ensures { λ r. ⌜ r .lost ≤ 512 ⌝ }
+    ensures { λ r. ⌜ r .trace ≤ 512 ⌝ }
+{
+    let own = mixed(seed);
+    let short = own % 30;
+    let states = any_length(own ^ 1, solved.count, short == 0);
+    let predecessors = any_length(own ^ 2, solved.count, short == 1);
+    let letters = any_length(own ^ 3, solved.count, short == 2);
+    let lost = any_length(own ^ 4, solved.count, short == 3);
+    let trace = any_length(own ^ 5, solved.length, 26 < short);
+    Lengths {
+        states,
+        predecessors,
+        letters,
+        lost,
+        trace,
+    }
+}
+
+// What stands at a place before the search.
+fn rubbish(key: u64, i: usize) -> u64 {
+    mixed(key ^ (i as u64))
+}
+
+pub fn rubbish64(key: u64) -> [u64; LONGEST]
+    ensures { λ r. ⌜ 512 ≡ length r ⌝ }
+{
+    let mut list = [0u64; LONGEST];
+    for i in 0..LONGEST {
+        list[i] = rubbish(key, i);
+    }
+    list
+}
+
+pub fn rubbish16(key: u64) -> [u16; LONGEST]
+    ensures { λ r. ⌜ 512 ≡ length r ⌝ }
+{
+    let mut list = [0u16; LONGEST];
+    for i in 0..LONGEST {
+        list[i] = (rubbish(key, i) % 65536) as u16;
+    }
+    list
+}
+
+pub fn rubbish8(key: u64) -> [u8; LONGEST]
+    ensures { λ r. ⌜ 512 ≡ length r ⌝ }
+{
+    let mut list = [0u8; LONGEST];
+    for i in 0..LONGEST {
+        list[i] = (rubbish(key, i) % 256) as u8;
+    }
+    list
+}
+
+// What place i should hold after the search: up to `used` what the answer's part has, and past that
+// 0 if the list was cleared, else what it held.
+fn after_search(
+    answer: &[u64],
+    part: usize,
+    i: usize,
+    used: usize,
+    cleared: bool,
+    key: u64,
+) -> u64 {
+    if i < used {
+        get(answer, in_part(part, i))
+    } else if cleared {
+        0
+    } else {
+        rubbish(key, i)
+    }
+}
+
+// Whether the first n places of a list hold what they should.
+pub fn same64(
+    list: &[u64; LONGEST],
+    n: usize,
+    answer: &[u64],
+    part: usize,
+    used: usize,
+    cleared: bool,
+    key: u64,
+) -> bool {
+    for i in 0..LONGEST {
+        let x = after_search(answer, part, i, used, cleared, key);
+        if i < n {
+            if list[i] != x {
+                return false;
+            }
+        }
+    }
+    true
+}
+
+pub fn same16(
+    list: &[u16; LONGEST],
+    n: usize,
+    answer: &[u64],
+    part: usize,
+    used: usize,
+    cleared: bool,
+    key: u64,
+) -> bool {
+    for i in 0..LONGEST {
+        let x = after_search(answer, part, i, used, cleared, key);
+        if i < n {
+            if list[i] != (x % 65536) as u16 {
+                return false;
+            }
+        }
+    }
+    true
+}
+
+pub fn same8(
+    list: &[u8; LONGEST],
+    n: usize,
+    answer: &[u64],
+    part: usize,
+    used: usize,
+    cleared: bool,
+    key: u64,
+) -> bool {
+    for i in 0..LONGEST {
+        let x = after_search(answer, part, i, used, cleared, key);
+        if i < n {
+            if list[i] != (x % 256) as u8 {
+                return false;
+            }
+        }
+    }
+    true
+}

@@ -1,0 +1,104 @@
+// Searches random tables and compares the answer, and every place of the lent lists, with those of
+// a second search (second.rt). Prints how many tables agreed, and what kinds of answers there were.
+mod compare;
+mod doomed;
+mod earliest;
+mod expected;
+mod lent;
+mod lists;
+mod random;
+mod reached;
+mod rules;
+mod second;
+mod spoil;
+mod tally;
+
+use compare::compare_answers;
+use compare::compare_lists;
+use expected::expect;
+use lent::any_lengths;
+use lent::rubbish8;
+use lent::rubbish16;
+use lent::rubbish64;
+use random::any_table;
+use random::mixed;
+use random::one_in;
+use second::ALL_PARTS;
+use second::Solved;
+use second::solve;
+use spoil::spoil;
+use table::Table;
+use tally::Tally;
+use tally::counted;
+use tally::none;
+use tally::print;
+
+const TABLES: u64 = 10000;
+
+const SEED: u64 = 0x2545_f491_4f6c_dd1d;
+
+// Searches a table with lent lists of some lengths, compares, and counts it.
+fn attempt(
+    seed: u64,
+    table: Table,
+    valid: bool,
+    solved: Solved,
+    answer: &[u64],
+    tally: Tally,
+) -> Tally {
+    let lengths = any_lengths(seed ^ 4, solved);
+    let right = expect(valid, solved, lengths);
+    let mut states = rubbish64(seed);
+    let mut predecessors = rubbish16(seed);
+    let mut letters = rubbish8(seed);
+    let mut lost = rubbish16(seed);
+    let mut trace = rubbish8(seed);
+    let a = lengths.states;
+    let b = lengths.predecessors;
+    let c = lengths.letters;
+    let d = lengths.lost;
+    let e = lengths.trace;
+    let found = search::search(
+        table,
+        &mut states[..a],
+        &mut predecessors[..b],
+        &mut letters[..c],
+        &mut lost[..d],
+        &mut trace[..e],
+    );
+    let same = compare_lists(
+        &states,
+        &predecessors,
+        &letters,
+        &lost,
+        &trace,
+        lengths,
+        answer,
+        right,
+        seed,
+    )
+        & compare_answers(found, right);
+    counted(tally, right, table.count, same)
+}
+
+// Makes a table, solves it by the second search, and tries the first on it, or now and then on the
+// table spoiled.
+fn run(number: u64, tally: Tally) -> Tally {
+    let seed = mixed(SEED ^ number);
+    let table = any_table(seed ^ 1);
+    let mut answer = [0u64; ALL_PARTS];
+    let solved = solve(table, &mut answer);
+    if one_in(seed ^ 2, 40) {
+        let bad = spoil(seed ^ 3, table);
+        return attempt(seed, bad, false, solved, &answer, tally);
+    }
+    attempt(seed, table, true, solved, &answer, tally)
+}
+
+fn main() {
+    let mut tally = none();
+    for number in 0..TABLES {
+        tally = run(number, tally);
+    }
+    print(tally);
+}

@@ -1,0 +1,192 @@
+// Random numbers and random tables. Nothing is kept between choices: a seed stands for a table, a
+// row or a set, `seed ^ k` for its choice number k, and the number for a choice is mixed from that.
+use table::CONDITIONS;
+use table::MOST_ROWS;
+use table::MOST_SIGNALS;
+use table::NAME_LETTERS;
+use table::Name;
+use table::Row;
+use table::Table;
+
+// A step of a generator that multiplies one half and takes in the other.
+fn turn(x: u64) -> u64 {
+    ((x % 0x1_0000_0000) * 0x9e37_79b9) ^ (x >> 32)
+}
+
+pub fn mixed(x: u64) -> u64 {
+    turn(turn(turn(turn(x))))
+}
+
+// A number below n, or 0.
+pub fn below(seed: u64, n: u16) -> u16 {
+    let x = ((mixed(seed) >> 16) % 65536) as u16;
+    if n == 0 { 0 } else { x % n }
+}
+
+pub fn byte_below(seed: u64, n: u8) -> u8 {
+    let x = ((mixed(seed) >> 24) % 256) as u8;
+    if n == 0 { 0 } else { x % n }
+}
+
+// Whether a chance of one in n came up.
+pub fn one_in(seed: u64, n: u16) -> bool {
+    below(seed, n) == 0
+}
+
+// All letters of so many signals.
+fn full(signals: u8) -> u64 {
+    match signals {
+        1 => 0x3,
+        2 => 0xf,
+        3 => 0xff,
+        4 => 0xffff,
+        5 => 0xffff_ffff,
+        _ => 0xffff_ffff_ffff_ffff,
+    }
+}
+
+// The letters in which one signal is on.
+fn signal_set(signal: u8) -> u64 {
+    match signal {
+        0 => 0xaaaa_aaaa_aaaa_aaaa,
+        1 => 0xcccc_cccc_cccc_cccc,
+        2 => 0xf0f0_f0f0_f0f0_f0f0,
+        3 => 0xff00_ff00_ff00_ff00,
+        4 => 0xffff_0000_ffff_0000,
+        _ => 0xffff_ffff_0000_0000,
+    }
+}
+
+// A set of letters: none, all, a signal, a signal's absence, few, half or most of them.
+fn any_set(seed: u64, signals: u8) -> u64 {
+    let own = mixed(seed);
+    let kind = byte_below(own ^ 1, 12);
+    let one = signal_set(byte_below(own ^ 2, signals));
+    let a = mixed(own ^ 3);
+    let b = mixed(own ^ 4);
+    let all = full(signals);
+    match kind {
+        0 => 0,
+        1 => all,
+        2 | 3 | 4 => one & all,
+        5 | 6 => (one & all) ^ all,
+        7 | 8 => a & b & all,
+        9 | 10 => a & all,
+        _ => (a | b) & all,
+    }
+}
+
+// A least and a most bound.
+struct Range {
+    least: u8,
+    most: u8,
+}
+
+fn any_range(seed: u64, scale: u8) -> Range {
+    let own = mixed(seed);
+    let a = byte_below(own ^ 1, scale);
+    let b = byte_below(own ^ 2, scale);
+    if a < b {
+        Range { least: a, most: b }
+    } else {
+        Range { least: b, most: a }
+    }
+}
+
+// A row with bounds below `scale`. In a slow one the trigger's ticks are fixed.
+fn any_row(seed: u64, signals: u8, scale: u8, slow: bool) -> Row {
+    let own = mixed(seed);
+    let tse = any_set(own ^ 1, signals);
+    let tc = any_set(own ^ 2, signals);
+    let tee = any_set(own ^ 3, signals);
+    let ase = any_set(own ^ 4, signals);
+    let ac = any_set(own ^ 5, signals);
+    let aee = any_set(own ^ 6, signals);
+    let t = any_range(own ^ 7, scale);
+    let l = any_range(own ^ 8, scale);
+    let a = any_range(own ^ 9, scale);
+    Row {
+        sets: [tse, tc, tee, ase, ac, aee],
+        tmin: if slow { t.most } else { t.least },
+        tmax: t.most,
+        lmin: l.least,
+        lmax: l.most,
+        amin: a.least,
+        amax: a.most,
+    }
+}
+
+fn no_row() -> Row {
+    Row {
+        sets: [0u64; CONDITIONS],
+        tmin: 0,
+        tmax: 0,
+        lmin: 0,
+        lmax: 0,
+        amin: 0,
+        amax: 0,
+    }
+}
+
+fn no_name() -> Name {
+    Name {
+        letters: [0u8; NAME_LETTERS],
+    }
+}
+
+// The names a, b, c and so on.
+fn names(signals: u8) -> [Name; MOST_SIGNALS] {
+    let mut names = [no_name(); MOST_SIGNALS];
+    for i in 0..MOST_SIGNALS {
+        if i < signals as usize {
+            let mut name = no_name();
+            name.letters[0] = b'a' + (i as u8);
+            names[i] = name;
+        }
+    }
+    names
+}
+
+fn any_rows(seed: u64, signals: u8, count: u8, scale: u8, slow: bool) -> [Row; MOST_ROWS] {
+    let own = mixed(seed);
+    let mut rows = [no_row(); MOST_ROWS];
+    for i in 0..MOST_ROWS {
+        if i < count as usize {
+            rows[i] = any_row(own ^ (i as u64), signals, scale, slow);
+        }
+    }
+    rows
+}
+
+// The bounds of a table of so many rows are below this.
+fn any_scale(seed: u64, count: u8) -> u8 {
+    let kind = byte_below(seed, 10);
+    if 4 < count {
+        return 2;
+    }
+    match kind {
+        0 | 1 => 2,
+        2 | 3 | 4 => 3,
+        5 | 6 => 5,
+        7 => { if count == 1 { 61 } else { 6 } }
+        _ => { if count <= 2 { 20 } else { 6 } }
+    }
+}
+
+// A table that number 17 lets by: mostly 1 to 3 signals and 1 to 4 rows, now and then more.
+pub fn any_table(seed: u64) -> Table {
+    let own = mixed(seed);
+    let few = 1 + (own % 3) as u8;
+    let signals = if one_in(own ^ 1, 24) { 3 + few } else { few };
+    let less = 1 + (own / 3 % 4) as u8;
+    let count = if one_in(own ^ 2, 24) { 4 + less } else { less };
+    let scale = any_scale(own ^ 3, count);
+    let names = names(signals);
+    let rows = any_rows(own ^ 5, signals, count, scale, one_in(own ^ 4, 2));
+    Table {
+        signals,
+        names,
+        count,
+        rows,
+    }
+}

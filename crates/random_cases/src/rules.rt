@@ -1,0 +1,108 @@
+// The step rules of document 01 over phase codes: "0 waiting; 1-60 trigger elapsed; 60 + elapsed
+// for delay; 120 + elapsed for action; 255 broken".
+use table::AC;
+use table::AEE;
+use table::ASE;
+use table::MOST_ROWS;
+use table::Row;
+use table::TC;
+use table::TEE;
+use table::TSE;
+use table::Table;
+
+const WAITING: u64 = 0;
+
+const TRIGGER: u64 = 0;
+
+const DELAY: u64 = 60;
+
+const ACTION: u64 = 120;
+
+const BROKEN_ROW: u64 = 255;
+
+// No state of unbroken rows: every code in it is 255.
+pub const BROKEN: u64 = 0xffff_ffff_ffff_ffff;
+
+fn holds(set: u64, letter: u8) -> bool {
+    if letter < 64 {
+        (set >> letter) % 2 == 1
+    } else {
+        false
+    }
+}
+
+// "if AEE holds and a >= Amin: waiting. Else if AC holds and a < Amax: action, a + 1. Else broken."
+fn action_check(row: Row, a: u8, letter: u8) -> u64 {
+    if holds(row.sets[AEE], letter) & (row.amin <= a) {
+        return WAITING;
+    }
+    if holds(row.sets[AC], letter) & (a < row.amax) {
+        return ACTION + (a as u64) + 1;
+    }
+    BROKEN_ROW
+}
+
+// "if ASE holds and d >= Lmin, do the action check with 0 on the same letter. Else if d < Lmax:
+// delay, d + 1. Else broken."
+fn delay_check(row: Row, d: u8, letter: u8) -> u64 {
+    if holds(row.sets[ASE], letter) & (row.lmin <= d) {
+        return action_check(row, 0, letter);
+    }
+    if d < row.lmax {
+        return DELAY + (d as u64) + 1;
+    }
+    BROKEN_ROW
+}
+
+// "if TEE holds and t >= Tmin, the trigger is realised: do the delay check with 0 on the same
+// letter. Else if TC holds and t < Tmax: trigger, t + 1. Else waiting (aborted)".
+fn trigger_check(row: Row, t: u8, letter: u8) -> u64 {
+    if holds(row.sets[TEE], letter) & (row.tmin <= t) {
+        return delay_check(row, 0, letter);
+    }
+    if holds(row.sets[TC], letter) & (t < row.tmax) {
+        return TRIGGER + (t as u64) + 1;
+    }
+    WAITING
+}
+
+// "Waiting: if TSE holds, do the trigger check with 0; else stay waiting."
+fn start_check(row: Row, letter: u8) -> u64 {
+    if holds(row.sets[TSE], letter) {
+        trigger_check(row, 0, letter)
+    } else {
+        WAITING
+    }
+}
+
+// "A row in a phase does the check of that phase with its elapsed ticks."
+fn step_row(row: Row, code: u8, letter: u8) -> u64 {
+    if code == 255 {
+        BROKEN_ROW
+    } else if 120 < code {
+        action_check(row, code - 120, letter)
+    } else if 60 < code {
+        delay_check(row, code - 60, letter)
+    } else if 0 < code {
+        trigger_check(row, code, letter)
+    } else {
+        start_check(row, letter)
+    }
+}
+
+// The state one letter later, or BROKEN. "the first row's code is the lowest eight bits".
+pub fn step(table: Table, state: u64, letter: u8) -> u64 {
+    let rows = table.rows;
+    let mut next: u64 = 0;
+    for i in 0..MOST_ROWS {
+        if i < table.count as usize {
+            let code = ((state >> (8 * i)) % 256) as u8;
+            let stepped = step_row(rows[i], code, letter);
+            if stepped == BROKEN_ROW {
+                return BROKEN;
+            }
+            next = next | (stepped << (8 * i));
+        }
+    }
+    next
+}
