@@ -33,8 +33,8 @@ module _ (names : List Name) (letters : ℕ) where
     pub shallow : Shallow xs
     pub means : Means names letters xs v false
 
-  -- "Every further line is `rule `, then twelve fields with eleven commas between them"; "a bound is
-  -- 0 to 60 without a leading zero; least is not above most".
+  -- "Every further line is `rule `, then twelve fields with eleven commas between them"; "a bound
+  -- is 0 to 60 without a leading zero; least is not above most".
   pub record IsRow (line : List ℕ) (row : Row) : Type 0 where
     pub tse : List ℕ
     pub tc : List ℕ

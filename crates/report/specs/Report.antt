@@ -34,8 +34,8 @@ rulesWord = 114 ∷ 117 ∷ 108 ∷ 101 ∷ 115 ∷ 32 ∷ []
 
 abbrev pub countWord : List ℕ
 countWord =
-    99 ∷ 111 ∷ 110 ∷ 102 ∷ 105 ∷ 103 ∷ 117 ∷ 114 ∷ 97 ∷ 116 ∷ 105 ∷ 111 ∷ 110 ∷ 115 ∷ 32
-    ∷ []
+    99 ∷ 111 ∷ 110 ∷ 102 ∷ 105 ∷ 103 ∷ 117 ∷ 114 ∷ 97 ∷ 116 ∷ 105 ∷ 111 ∷ 110 ∷ 115
+    ∷ 32 ∷ []
 
 abbrev pub sizeLines : Size → List (List ℕ)
 sizeLines n = (rulesWord ++ decimal (n .rules)) ∷ (countWord ++ decimal (n .count)) ∷ []
@@ -47,8 +47,8 @@ soundLine =
 
 abbrev pub trappedLine : List ℕ
 trappedLine =
-    118 ∷ 101 ∷ 114 ∷ 100 ∷ 105 ∷ 99 ∷ 116 ∷ 32 ∷ 116 ∷ 114 ∷ 97 ∷ 112 ∷ 112 ∷ 101 ∷ 100
-    ∷ []
+    118 ∷ 101 ∷ 114 ∷ 100 ∷ 105 ∷ 99 ∷ 116 ∷ 32 ∷ 116 ∷ 114 ∷ 97 ∷ 112 ∷ 112 ∷ 101
+    ∷ 100 ∷ []
 
 -- `tick ` and `lost `: "A tick line has the tick's number from 1 and each signal's value in file
 -- order." "Lost is the lost number."

@@ -9,14 +9,23 @@ use Rattle.checker.proofs.check.Tie as tie
 returns : tie.Need-returns
 returns c =
     let told = c .before .before .write .ensures in
-    rw (refused-checked _ _ (c .before .before .before .before .before .before .before .before .read .ensures) (c .before .before .before .before .before .before .outcome .given .1)) (told .0, (told .1, refl))
+    rw (refused-checked _ _ (c .before .before .before .before .before .before .before .before .read
+    .ensures) (c .before .before .before .before .before .before .outcome .given .1))
+    (told .0, (told .1, refl))
 
 returns-2 : tie.Need-returns-2
 returns-2 c =
-    let told = rw (c .before .before .before .before .before .answer-of .ensures) at (c .before .before .write2 .ensures) in
+    let told = rw (c .before .before .before .before .before .answer-of .ensures) at
+    (c .before .before .write2 .ensures) in
     rw (
-      accepted-checked _ _ (c .before .before .before .before .before .before .before .before .before .before .before .before .before .before .before .before .before .before .before .before .before .before .before .before .before .read .ensures) (c .before .before .before .before .before .before .before .before .before .before .before .before .before .before .before .before .before .before .before .before .before .before .before .enum-told .given .1),
-      ← c .before .before .before .before .before .before .before .before .before .before .before .before .before .before .before .before .search .ensures,
+      accepted-checked _ _ (c .before .before .before .before .before .before .before .before
+          .before .before .before .before .before .before .before .before .before .before .before
+          .before .before .before .before .before .before .read .ensures)
+          (c .before .before .before .before .before .before .before .before .before .before .before
+          .before .before .before .before .before .before .before .before .before .before .before
+          .before .enum-told .given .1),
+      ← c .before .before .before .before .before .before .before .before .before .before .before
+          .before .before .before .before .before .search .ensures,
     ) (told .0, (told .1, refl))
 
 pub check-spec : {M : Type 1} → statement M

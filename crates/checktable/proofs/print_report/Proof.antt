@@ -11,7 +11,8 @@ use Rattle.checktable.proofs.print_report.Tie as tie
 array-share-prefix-report : tie.Need-array-share-prefix-report
 array-share-prefix-report c =
     let check = c .before .before .before .before .before .before .check in
-    let short = program-short (c .before .before .before .before .before .before .before .before .before .before .before .before .before .before .args .file .now) in
+    let short = program-short (c .before .before .before .before .before .before .before .before
+    .before .before .before .before .before .before .args .file .now) in
     omega (arith, check .ensures .0, short, check .kept .1 .1 .1 .1 .1 .1 .0)
 
 slice-aggregate-write-all : tie.Need-slice-aggregate-write-all

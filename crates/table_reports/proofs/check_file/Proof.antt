@@ -1,5 +1,5 @@
--- `check_file` is safe: only a report that fits its buffer is taken from it. Assumes nothing but the
--- contracts of the C functions in `libc`.
+-- `check_file` is safe: only a report that fits its buffer is taken from it. Assumes nothing but
+-- the contracts of the C functions in `libc`.
 use borrow.Author.Needs.{needs}
 use mathlib.Core.Path.{sym}
 use lib.Seq.{length-take-le}
