@@ -12,7 +12,10 @@ ghost use mathlib.Core.Path.{_≡_};
 ghost use lib.ListN.{length};
 ghost use Rattle.search.specs.Answer.{lentLists};
 ghost use Rattle.report.specs.Buffer.{written};
-ghost use Rattle.checker.specs.Answer.{answerOf, checkAnswer};
+ghost use Rattle.checker.specs.Answer.{answerOf, checkAnswer, programLent};
+
+// "The program lends room 4,096 and a trace buffer of as many bytes."
+const ROOM: usize = 4096;
 
 // What the report says of what the search found in a table of so many rows.
 fn answer_of(rows: u8, found: Found) -> Answer
@@ -77,4 +80,26 @@ pub fn check(
             report::write(answer, table.signals, &*trace, out)
         }
     }
+}
+
+// The same in memory of its own, as much as the program lends.
+pub fn check_file(bytes: &[u8], out: &mut [u8]) -> usize
+    ensures { λ r. ⌜ r ≡ length (checkAnswer (now (bytes .entry)) programLent .report) ⌝ }
+    ensures { λ _. ⌜ now (out .exit)
+        ≡ written (checkAnswer (now (bytes .entry)) programLent .report) (now (out .entry)) ⌝ }
+{
+    let mut states = [0u64; ROOM];
+    let mut befores = [0u16; ROOM];
+    let mut letters = [0u8; ROOM];
+    let mut lost = [0u16; ROOM];
+    let mut trace = [0u8; ROOM];
+    check(
+        bytes,
+        &mut states,
+        &mut befores,
+        &mut letters,
+        &mut lost,
+        &mut trace,
+        out,
+    )
 }

@@ -1,14 +1,11 @@
 // checktable: reads a table from standard input and prints its report. All that is said of a table
-// comes from `checker::check`; here its memory is lent, and bytes come in and go out. What fails is
-// said on standard error, and nothing is printed then.
+// comes from `checker::check_file`; here bytes come in and go out. What fails is said on standard
+// error, and nothing is printed then.
 use libc::STDIN_FILENO;
 use libc::STDOUT_FILENO;
 ghost use Prim.Native.Nat.{_≤_};
 ghost use lib.ListN.{length};
 ghost use Rattle.checktable.specs.Input.{Within};
-
-// "The program lends room 4,096 and a trace buffer of as many bytes."
-const ROOM: usize = 4096;
 
 // The first bytes of a file that is too long are enough to say so.
 const MOST_READ: usize = 4097;
@@ -42,21 +39,8 @@ fn read_input(file: &mut [u8]) -> Input
 }
 
 fn print_report(file: &[u8]) {
-    let mut states = [0u64; ROOM];
-    let mut befores = [0u16; ROOM];
-    let mut letters = [0u8; ROOM];
-    let mut lost = [0u16; ROOM];
-    let mut trace = [0u8; ROOM];
     let mut report = [0u8; MOST_REPORT];
-    let length = checker::check(
-        file,
-        &mut states,
-        &mut befores,
-        &mut letters,
-        &mut lost,
-        &mut trace,
-        &mut report,
-    );
+    let length = checker::check_file(file, &mut report);
     if !io::write_all(STDOUT_FILENO, &report[..length]) {
         os::fail(b"checktable: the report cannot be written");
     }

@@ -3,8 +3,6 @@
 use libc::STDOUT_FILENO;
 ghost use Rattle.io.specs.Counts.{Counts};
 
-const ROOM: usize = 4096;
-
 const MOST_READ: usize = 5000;
 
 fn print(word: &[u8]) {
@@ -41,22 +39,9 @@ fn compare(made: &[u8], stored: &[u8]) {
     }
 }
 
-fn check_file(file: &[u8], stored: &[u8]) {
-    let mut states = [0u64; ROOM];
-    let mut befores = [0u16; ROOM];
-    let mut letters = [0u8; ROOM];
-    let mut lost = [0u16; ROOM];
-    let mut trace = [0u8; ROOM];
+fn check_table(file: &[u8], stored: &[u8]) {
     let mut report = [0u8; MOST_READ];
-    let length = checker::check(
-        file,
-        &mut states,
-        &mut befores,
-        &mut letters,
-        &mut lost,
-        &mut trace,
-        &mut report,
-    );
+    let length = checker::check_file(file, &mut report);
     if length <= MOST_READ {
         compare(&report[..length], stored);
     } else {
@@ -71,7 +56,7 @@ fn check_pair(table: usize, report: usize) {
     let length = read_file(table, &mut file);
     let end = read_file(report, &mut stored);
     print_name(table);
-    check_file(&file[..length], &stored[..end]);
+    check_table(&file[..length], &stored[..end]);
 }
 
 fn main() {
