@@ -48,10 +48,12 @@ use Rattle.conditions.proofs.Conditions.{trees-letters}
 use Rattle.conditions.proofs.Judging as J
 use Rattle.reader.specs.File.{readAnswer}
 use Rattle.reader.specs.Grammar.{IsCondition, IsFile, Answered, accepted}
+use Rattle.reader.specs.Witness.{Sized, Witnessed}
 use Rattle.reader.specs.declared.Reading.{Reading}
 use Rattle.reader.proofs.Accepted as R
 use Rattle.reader.proofs.Answers as A
 use Rattle.reader.proofs.Fits as F
+use Rattle.reader.proofs.Witness as I
 use Rattle.search.specs.Answer.{Lent, Searched, roomOf, systemOf, cleared, traced, refusedFound}
 use Rattle.search.specs.Answer.{soundFound, trappedFound, searchAnswer}
 use Rattle.search.specs.Bound.{mostStates}
@@ -105,6 +107,11 @@ module _ (bytes : List ℕ) (table : Table) where
 
   pub file-fits : IsFile bytes table → tableFits table ≡ true
   file-fits = F.file-fits bytes table
+
+-- 17: "a table value with a signal count, names, row count or bounds that no accepted file has" is
+-- turned down, and only such: those of a value that is let by are in some accepted file.
+pub fits-witnessed : (table : Table) → Sized table → tableFits table ≡ true → Witnessed table
+fits-witnessed = I.fits-witnessed
 
 -- A letter is in a condition's set exactly where the condition holds, whichever tree its bytes are
 -- read as.

@@ -126,6 +126,9 @@ module _ (t : Table) (fits : tableFits t ≡ true) where
   pub tableFits-rules : rulesFit (t .signals) (rowsOf t) ≡ true
   tableFits-rules = tableFits-parts .1
 
+  pub tableFits-names : namesFit (t .signals) (t .names) ≡ true
+  tableFits-names = tableFits-parts .2
+
   pub tableFits-count : (1 ≤ t .count) × (t .count ≤ mostRows)
   tableFits-count = countFits-bounds (t .count) mostRows (tableFits-parts .0)
 
