@@ -74,7 +74,10 @@ use Rattle.report.specs.Report.{lostWord, reportBytes, traceLength, Shows}
 use Rattle.report.proofs.Telling as T
 use Rattle.checker.specs.Answer.{sizeOf, checkAnswer, programLent}
 use Rattle.checker.proofs.Short as H
-use Rattle.demands.specs.Cases.{P as rowP, right, starred, Means}
+use Rattle.demands.specs.Cases.{P as rowP, Q as rowQ, S as rowS, report, delayed, right}
+use Rattle.demands.specs.Cases.{starred, Means}
+use Rattle.demands.specs.Texts.{ruleP, ruleNotC, ruleQ, ruleS, ruleDelayed, fileOf, ReadAs}
+use Rattle.demands.specs.Texts.{wholeOutput}
 use Rattle.demands.specs.Cases.Case.{after}
 use Rattle.demands.proofs.Watching as W
 use Rattle.demands.proofs.Words as D
@@ -84,6 +87,7 @@ use Rattle.demands.proofs.Alike as L
 use Rattle.demands.proofs.StateNumbers as N
 use Rattle.demands.proofs.Reporting as P
 use Rattle.demands.proofs.Starred as C
+use Rattle.demands.proofs.Whole as B
 
 -- The reader. Demand 1: any bytes are accepted with a table, or refused with a number, its line and
 -- an empty table.
@@ -440,3 +444,14 @@ starred-right = C.starred-right
 
 pub starred-means : (i : ℕ) → i < length starred → Means (getD starred i (after rowP [] 0))
 starred-means = C.starred-means
+
+-- Their rows are those that the reader makes of the texts; and "A whole report" is, to the byte,
+-- what is reported of its input, in all lent memory that holds two states and a letter.
+pub boards-read : ReadAs (ruleP ∷ []) (rowP ∷ []) × ReadAs (ruleQ ∷ []) (rowQ ∷ [])
+    × ReadAs (ruleS ∷ []) (rowS ∷ []) × ReadAs (ruleDelayed ∷ []) delayed
+    × ReadAs (ruleP ∷ ruleNotC ∷ []) report
+boards-read = B.boards-read
+
+pub whole-report : (lent : Lent) → 2 ≤ roomOf lent → 1 ≤ length (lent .trace)
+    → checkAnswer (fileOf (ruleP ∷ ruleNotC ∷ [])) lent .report ≡ wholeOutput
+whole-report = B.whole-report

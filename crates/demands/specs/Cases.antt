@@ -54,11 +54,11 @@ abbrev pub P : Row
 P = timed (a ∷ a ∷ a ∷ c ∷ c ∷ c ∷ []) 0 0 1 1 0 0
 
 -- Q is `a,a,c,2,3,0,0,0,0,0,0,0`.
-abbrev Q : Row
+abbrev pub Q : Row
 Q = timed (a ∷ a ∷ c ∷ never ∷ never ∷ never ∷ []) 2 3 0 0 0 0
 
 -- S is `a,a,a,0,0,0,0,1,c,a,1,2`.
-abbrev S : Row
+abbrev pub S : Row
 S = timed (a ∷ a ∷ a ∷ always ∷ c ∷ a ∷ []) 0 0 0 0 1 2
 
 -- "The report's table": P, and `a,a,a,0,0,1,1,!c,!c,!c,0,0`.

@@ -1,3 +1,4 @@
 pub mod Watching
 pub mod Searching
 pub mod Cases
+pub mod Texts
