@@ -7,7 +7,7 @@ use Rattle.table.specs.declared.Refusal.{Refusal}
 use Rattle.reader.specs.declared.Reading.{Reading}
 use Rattle.reader.specs.File.{readAnswer}
 use Rattle.search.specs.Answer.{Lent}
-use Rattle.checker.specs.Answer.{behindReading, checkAnswer}
+use Rattle.checker.specs.Answer.{behindReading, checkAnswer, Call}
 
 module _ (bytes : List ℕ) (lent : Lent) {reading : Reading} (read : reading ≡ readAnswer bytes)
   where
@@ -20,3 +20,9 @@ module _ (bytes : List ℕ) (lent : Lent) {reading : Reading} (read : reading �
         → checkAnswer bytes lent ≡ behindReading Accepted (reading .table) lent
     unfolding checkAnswer
     accepted-checked e = rw (← read, e)
+
+-- Two calls are the same if their numbers and buffers are.
+pub call-same : {m n : ℕ} {one other : List ℕ} {lent : Lent} → (m ≡ n) × (one ≡ other)
+    → _≡_ {A = Call} (record { length = m; out = one; lent = lent })
+    (record { length = n; out = other; lent = lent })
+call-same e = rw (e .0, e .1)

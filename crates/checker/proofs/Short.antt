@@ -57,7 +57,7 @@ module _ (table : Table) (lent : Lent) (short : length (lent .trace) ≤ 4096) w
       rw fits (judged-few (table .count) (tableFits-count table fits .1) (roomOf lent)
       (room-most lent) _ (answer-within (systemOf table) (roomOf lent) samePhases) lent _ short)
 
-  pub accepted-short : tableFits table ≡ true
+  accepted-short : tableFits table ≡ true
       → length (behindReading Accepted table lent .report) ≤ 70000
   accepted-short fits =
       report-short (table .signals) _ _ (tableFits-signals table fits .1) (searched-few fits)
@@ -70,7 +70,7 @@ place-few line3 = (omega arith, omega arith)
 place-few (rowLine i h p q) = (omega arith, omega arith)
 place-few ninthRow = (omega arith, omega arith)
 
-pub checked-short : (bytes : List ℕ) (lent : Lent) → length (lent .trace) ≤ 4096
+checked-short : (bytes : List ℕ) (lent : Lent) → length (lent .trace) ≤ 4096
     → length (checkAnswer bytes lent .report) ≤ 70000
 unfolding checkAnswer
 checked-short bytes lent short = go (read-answered bytes)

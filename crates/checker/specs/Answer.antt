@@ -1,7 +1,7 @@
 -- What is reported of a file, and what all lent memory holds then.
 use Prim.Native.Nat.{ℕ}
 use mathlib.Core.List.{List}
-use lib.ListN.{replicate}
+use lib.ListN.{length, replicate}
 use Rattle.table.specs.declared.Outcome.{Outcome}
 use Rattle.table.specs.declared.Outcome.the-variants.{Accepted, Refused}
 use Rattle.table.specs.declared.Table.{Table}
@@ -15,6 +15,7 @@ use Rattle.report.specs.declared.Answer.the-variants.{Refused as SaysRefused, S
 use Rattle.report.specs.declared.Answer.the-variants.{Trapped as SaysTrapped}
 use Rattle.report.specs.declared.Size.{Size}
 use Rattle.report.specs.declared.Trap.{Trap}
+use Rattle.report.specs.Buffer.{written}
 use Rattle.report.specs.Report.{reportBytes}
 
 -- What is said of what the search found in a table with so many rows. The last case is none that a
@@ -59,6 +60,22 @@ behindReading Accepted table lent =
 unfoldable pub checkAnswer : List ℕ → Lent → Checked
 checkAnswer bytes lent =
     let reading = readAnswer bytes in behindReading (reading .outcome) (reading .table) lent
+
+-- What a call answers and leaves: the report's length, as much of the report as the buffer takes,
+-- and the lent memory.
+pub record Call : Type 0 where
+  pub length : ℕ
+  pub out : List ℕ
+  pub lent : Lent
+
+abbrev pub checkCall : List ℕ → Lent → List ℕ → Call
+checkCall bytes lent out =
+    let checked = checkAnswer bytes lent in
+    record {
+      length = length (checked .report);
+      out = written (checked .report) out;
+      lent = checked .lent;
+    }
 
 -- "The program lends room 4,096 and a trace buffer of as many bytes."
 abbrev pub programLent : Lent

@@ -7,12 +7,12 @@ use search::Found;
 use search::Verdict;
 use table::Outcome;
 use table::Refusal;
-use table::Table;
 ghost use mathlib.Core.Path.{_≡_};
 ghost use lib.ListN.{length};
 ghost use Rattle.search.specs.Answer.{lentLists};
 ghost use Rattle.report.specs.Buffer.{written};
-ghost use Rattle.checker.specs.Answer.{answerOf, checkAnswer, programLent};
+ghost use Rattle.checker.specs.Answer.{answerOf, checkAnswer, checkCall};
+ghost use Rattle.checker.specs.Answer.{programLent};
 
 // "The program lends room 4,096 and a trace buffer of as many bytes."
 const ROOM: usize = 4096;
@@ -57,17 +57,14 @@ pub fn check(
     trace: &mut [u8],
     out: &mut [u8],
 ) -> usize
-    ensures { λ r. ⌜ r ≡ length (checkAnswer (now (bytes .entry)) (lentLists (now (states .entry))
-        (now (befores .entry)) (now (letters .entry)) (now (lost .entry)) (now (trace .entry)))
-        .report) ⌝ }
-    ensures { λ _. ⌜ now (out .exit) ≡ written (checkAnswer (now (bytes .entry))
-        (lentLists (now (states .entry)) (now (befores .entry)) (now (letters .entry))
-        (now (lost .entry)) (now (trace .entry))) .report) (now (out .entry)) ⌝ }
-    ensures { λ _. ⌜ lentLists (now (states .exit)) (now (befores .exit)) (now (letters .exit))
-        (now (lost .exit)) (now (trace .exit))
-        ≡ checkAnswer (now (bytes .entry)) (lentLists (now (states .entry))
-        (now (befores .entry)) (now (letters .entry)) (now (lost .entry)) (now (trace .entry)))
-        .lent ⌝ }
+    ensures { λ r. ⌜ record {
+      length = r;
+      out = now (out .exit);
+      lent = lentLists (now (states .exit)) (now (befores .exit)) (now (letters .exit))
+          (now (lost .exit)) (now (trace .exit));
+    }
+        ≡ checkCall (now (bytes .entry)) (lentLists (now (states .entry)) (now (befores .entry))
+        (now (letters .entry)) (now (lost .entry)) (now (trace .entry))) (now (out .entry)) ⌝ }
 {
     let read = reader::read(bytes);
     let outcome = read.outcome;

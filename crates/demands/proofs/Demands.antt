@@ -38,7 +38,8 @@ use Rattle.watcher.specs.Watch.{phasesOf, watchOf, startWatch}
 use Rattle.watcher.specs.Answer.{firstNumber, tickAnswer}
 use Rattle.table.specs.Refusal.{numberOf, lineOf}
 use Rattle.watcher.proofs.Records.{watch-phases}
-use Rattle.text.specs.Bounds.{IsBound, boundOf}
+use Rattle.text.specs.Bounds.{decimal, IsBound, boundOf}
+use Rattle.text.specs.Lines.{ended}
 use Rattle.text.specs.declared.Bound.the-variants.{Value}
 use Rattle.text.proofs.Bounds.{boundOf-right, boundOf-complete}
 use Rattle.conditions.specs.Condition.{Cond, choice, text, holdsAt}
@@ -46,7 +47,7 @@ use Rattle.conditions.specs.Judge.{Right, judge}
 use Rattle.conditions.specs.declared.Judged.{Judged}
 use Rattle.conditions.proofs.Conditions.{trees-letters}
 use Rattle.conditions.proofs.Judging as J
-use Rattle.reader.specs.File.{readAnswer}
+use Rattle.reader.specs.File.{refusedFile, readAnswer}
 use Rattle.reader.specs.Grammar.{IsCondition, IsFile, Answered, accepted}
 use Rattle.reader.specs.Witness.{Sized, Witnessed}
 use Rattle.reader.specs.declared.Reading.{Reading}
@@ -65,14 +66,11 @@ use Rattle.demands.specs.Searching.{Dead, Shown, CanGoOn, Fit, withEntri
 use Rattle.demands.specs.Searching.{TrapShown, TrapRefused, SameLengths, SameScratch}
 use Rattle.demands.specs.Searching.{ScratchShown, EarliestDoomed}
 use Rattle.demands.specs.Searching.RightAnswer.{is17, is20}
-use Rattle.text.specs.Bounds.{decimal}
-use Rattle.text.specs.Lines.{ended}
-use Rattle.reader.specs.File.{refusedFile}
 use Rattle.report.specs.declared.Answer.{Answer as Told}
 use Rattle.report.specs.Report.{heading, refusedLine, sizeLines, soundLine, trappedLine, tickLines}
 use Rattle.report.specs.Report.{lostWord, reportBytes, traceLength, Shows}
 use Rattle.report.proofs.Telling as T
-use Rattle.checker.specs.Answer.{sizeOf, checkAnswer, programLent}
+use Rattle.checker.specs.Answer.{sizeOf, answerOf, checkAnswer, programLent}
 use Rattle.checker.proofs.Short as H
 use Rattle.demands.specs.Cases.{P as rowP, Q as rowQ, S as rowS, report, delayed, right}
 use Rattle.demands.specs.Cases.{starred, Means}
@@ -382,8 +380,14 @@ module _ (one other : Table) (lent held : Lent) (n : ℕ) (fit : Fit one lent n)
       ≡ take (searchAnswer one lent .found .length) (searchAnswer other held .lent .trace)
   rows-show = L.rows-show one other lent held n fit passes signals rows room short
 
--- The report. Different answers give different reports: to so many signals, what the bytes are the
--- same of is the same answer, with the same trace.
+-- The report. Different answers give different reports: where the bytes are the same, so are the
+-- answer and its trace, for one number of signals. What the search finds in a table is such an
+-- answer (`Shows`).
+pub searched-shows : (table : Table) (lent : Lent)
+    → Shows (table .signals) (searchAnswer table lent .lent .trace)
+    (answerOf (table .count) (searchAnswer table lent .found))
+searched-shows = P.searched-shows
+
 module _ (signals : ℕ) (one other : Told) (b c : List ℕ) (shows : Shows signals b one)
     (tells : Shows signals c other)
     (same : reportBytes signals b one ≡ reportBytes signals c other) where

@@ -7,7 +7,7 @@ use lib.ListN.{length, take, length-append, length-take}
 use Rattle.text.specs.Bounds.{decimal}
 use Rattle.text.specs.Lines.{LF, ended}
 use Rattle.text.proofs.Decimals.{decimal-length}
-use Rattle.report.proofs.Lines.{ended-append}
+use Rattle.text.proofs.Joins.{ended-append}
 use Rattle.report.specs.declared.Answer.{Answer}
 use Rattle.report.specs.declared.Answer.the-variants.{Refused, Sound, Trapped}
 use Rattle.report.specs.declared.Size.{Size}
@@ -23,7 +23,7 @@ pub numbered-length : (k : ℕ) (word : List ℕ) (n : ℕ) → n < 10 ^ suc k
 numbered-length k word n low =
     let few = decimal-length k n low in rw (length-append, length-append) (omega arith)
 
-pub values-length : (n k letter : ℕ) → length (values n k letter) ≡ n
+values-length : (n k letter : ℕ) → length (values n k letter) ≡ n
 unfolding values
 values-length zero k letter = refl
 values-length (suc n) k letter = ap suc (values-length n (suc k) letter)

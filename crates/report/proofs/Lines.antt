@@ -1,17 +1,10 @@
 -- Lines put into a buffer, each with its end. Assumes nothing.
 use Prim.Native.Nat.{ℕ}
 use mathlib.Core.List.{List, [], _∷_, _++_, append-assoc}
-use mathlib.Core.Path.{_≡_, refl, sym, ap, _∙_}
 use Rattle.text.specs.Lines.{LF, ended}
+use Rattle.text.proofs.Joins.{ended-append}
 use Rattle.report.specs.Buffer.{Puts}
 use Rattle.report.proofs.Puts.{puts-append}
-
-pub ended-append : (xs ys : List (List ℕ)) → ended (xs ++ ys) ≡ ended xs ++ ended ys
-unfolding ended
-ended-append [] ys = refl
-ended-append (line ∷ xs) ys =
-    ap (λ (more : List ℕ). line ++ LF ∷ more) (ended-append xs ys)
-    ∙ sym (append-assoc line (LF ∷ ended xs) (ended ys))
 
 -- A line, and then others; and lines, and then others.
 module _ {at : ℕ} {buffer : List ℕ} {next : ℕ} {between : List ℕ} {end : ℕ} {exit : List ℕ} where

@@ -22,7 +22,7 @@ sets-none : (xs : List ℕ) (at : ℕ) → sets [] at xs ≡ []
 sets-none [] at = refl
 sets-none (x ∷ xs) at = sets-none xs (suc at)
 
-pub sets-front : (bytes buffer : List ℕ) → sets buffer 0 bytes ≡ written bytes buffer
+sets-front : (bytes buffer : List ℕ) → sets buffer 0 bytes ≡ written bytes buffer
 sets-front [] [] = refl
 sets-front [] (y ∷ ys) = refl
 sets-front (x ∷ xs) [] = sets-none xs 1
@@ -39,9 +39,6 @@ module _ {at : ℕ} {xs buffer : List ℕ} {next : ℕ} {between : List ℕ}
         second .bytes-are ∙ rw (first .bytes-are, first .next-is)
         (sym (sets-append xs ys buffer at));
   }
-
-  pub puts-length : length between ≡ length buffer
-  puts-length = ap length (first .bytes-are) ∙ length-sets buffer at xs
 
   pub countable-behind : (ys : List ℕ) → Countable at (xs ++ ys) → Countable next ys
   countable-behind ys c =

@@ -1,6 +1,6 @@
 // Bytes, words and numbers put into a lent buffer from a place on: each answers the next place.
 // What the buffer has no place for is left out, and still counted.
-ghost use mathlib.Core.List.{[], _∷_, _++_};
+ghost use mathlib.Core.List.{[], _∷_};
 ghost use mathlib.Core.Path.{_≡_};
 ghost use lib.ListN.{set};
 ghost use Rattle.text.specs.Bounds.{decimal as decimalOf};

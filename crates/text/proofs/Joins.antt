@@ -5,7 +5,7 @@ use borrow.Author.Tests.{eqb-true}
 use native.Mathlib.Numerals.{unary-clauses}
 use native.Mathlib.Omega.{arith}
 use mathlib.Core.Bool.{Bool, true, false, cond, true≢false}
-use mathlib.Core.List.{List, [], _∷_, _++_}
+use mathlib.Core.List.{List, [], _∷_, _++_, append-assoc}
 use mathlib.Core.Path.{_≡_, refl, sym, ap, ap₂, _∙_}
 use lib.Dec.{eqb}
 use lib.ListN.{length, getD, length-append}
@@ -101,6 +101,13 @@ ended-lines (x ∷ y ∷ ys) some last =
     go true e ls l h = ap₂ _∷_ (sym (eqb-true x LF e)) h
     go false e [] l h = absurd (let z = ap length l in omega arith)
     go false e (line ∷ ls) l h = ap (_∷_ x) h
+
+pub ended-append : (xs ys : List (List ℕ)) → ended (xs ++ ys) ≡ ended xs ++ ended ys
+unfolding ended
+ended-append [] ys = refl
+ended-append (line ∷ xs) ys =
+    ap (λ (more : List ℕ). line ++ LF ∷ more) (ended-append xs ys)
+    ∙ sym (append-assoc line (LF ∷ ended xs) (ended ys))
 
 pub ended-last : (line : List ℕ) (more : List (List ℕ)) → let xs = ended (line ∷ more) in
     getD xs (length xs - 1) 0 ≡ LF

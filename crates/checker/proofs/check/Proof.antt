@@ -1,8 +1,7 @@
 -- `check` meets its contract: what the reader, the search and the report give, one behind the
 -- other. Assumes nothing.
 use borrow.Author.Needs.{needs}
-use mathlib.Core.Path.{refl}
-use Rattle.checker.proofs.Checking.{refused-checked, accepted-checked}
+use Rattle.checker.proofs.Checking.{refused-checked, accepted-checked, call-same}
 use Rattle.checker.proofs.check.Statement.{statement}
 use Rattle.checker.proofs.check.Tie as tie
 
@@ -11,7 +10,7 @@ returns c =
     let told = c .before .before .write .ensures in
     rw (refused-checked _ _ (c .before .before .before .before .before .before .before .before .read
     .ensures) (c .before .before .before .before .before .before .outcome .given .1))
-    (told .0, (told .1, refl))
+    (call-same told)
 
 returns-2 : tie.Need-returns-2
 returns-2 c =
@@ -26,7 +25,7 @@ returns-2 c =
           .before .enum-told .given .1),
       ← c .before .before .before .before .before .before .before .before .before .before .before
           .before .before .before .before .before .search .ensures,
-    ) (told .0, (told .1, refl))
+    ) (call-same told)
 
 pub check-spec : {M : Type 1} → statement M
 check-spec =
