@@ -14,6 +14,11 @@ use std::time::Instant;
 /// Less work than this, in milliseconds, is lost in what a process start varies by.
 const LEAST_WORK: f64 = 0.1;
 
+/// The goal: less its start, `checktable` takes no longer than this times `plain`, and with its start no longer
+/// than so many milliseconds, on any table that is measured here.
+const GOAL_RATIO: f64 = 1.0;
+const GOAL_TIME: f64 = 10.0;
+
 struct Bench {
     runs: usize,
     checktable: PathBuf,
@@ -122,10 +127,13 @@ impl Bench {
     }
 
     /// Measures a table that is made here; its signals are a, b and so on.
-    fn measure_made(&self, signals: usize, rows: &[String]) -> Measured {
+    fn measure_made(&self, kind: &str, signals: usize, rows: &[String]) -> Measured {
         let names: String = ('a'..).take(signals).map(|name| format!(" {name}")).collect();
         write(&self.made, &format!("PNP 0001\nsignals{names}\n{}", rows.concat()));
-        self.measure(&self.made)
+        let measured = self.measure(&self.made);
+        let (states, letters) = (measured.states.map_or("refused".into(), thousands), measured.letters);
+        let name = format!("{kind}, {states} states, {letters} letters, {} rows", rows.len());
+        Measured { name, ..measured }
     }
 
     // ---- Tables that grow
@@ -134,21 +142,41 @@ impl Bench {
     fn by_states(&self) -> Vec<Measured> {
         let tables = [[4, 4, 4], [8, 8, 4], [16, 8, 8], [16, 16, 16]];
         let rows = tables.map(|[a, b, c]| [free('a', a), free('b', b), free('c', c)]);
-        rows.iter().map(|rows| self.measure_made(3, rows)).collect()
+        rows.iter().map(|rows| self.measure_made("by states, sound", 3, rows)).collect()
     }
 
     /// States rise, with two rows and two letters; every state is doomed, and the first one's lost number is
     /// their count.
     fn by_doomed(&self) -> Vec<Measured> {
         let rows = [8, 16, 32, 64].map(|n| [periodic(n - 1, "a"), periodic(n + 1, "!a")]);
-        rows.iter().map(|rows| self.measure_made(1, rows)).collect()
+        rows.iter().map(|rows| self.measure_made("by states, doomed", 1, rows)).collect()
     }
 
-    /// Letters rise from 2 to 64, with two rows and always as many states; each signal is used.
+    /// Letters rise from 2 to 64, with two rows and always as many states; each signal is used, and many letters
+    /// act alike.
     fn by_letters(&self) -> Vec<Measured> {
         let any = |signals| ('a'..).take(signals).map(String::from).collect::<Vec<_>>().join("|");
         let rows = |signals| [periodic(63, &any(signals)), periodic(65, "1")];
-        (1..=6).map(|signals| self.measure_made(signals, &rows(signals))).collect()
+        (1..=6).map(|signals| self.measure_made("by letters", signals, &rows(signals))).collect()
+    }
+
+    /// Letters rise from 2 to 64, and each signal drives a row of its own, so that letters act apart. The first row
+    /// breaks after so many ticks whatever is read: every state is doomed. There are always over 4,000 states.
+    fn by_apart(&self) -> Vec<Measured> {
+        let tables: [(usize, &[usize]); 6] = [
+            (89, &[181]),
+            (67, &[8, 8]),
+            (65, &[4, 4, 4]),
+            (51, &[3, 3, 3, 3]),
+            (57, &[3, 3, 2, 2, 2]),
+            (63, &[2, 2, 2, 2, 2, 2]),
+        ];
+        let rows = |(ticks, phases): (usize, &[usize])| -> Vec<String> {
+            let driven = ('a'..).zip(phases).map(|(signal, &phases)| free(signal, phases));
+            std::iter::once(fatal(ticks)).chain(driven).collect()
+        };
+        let tables = tables.map(|table| (table.1.len(), rows(table)));
+        tables.iter().map(|(signals, rows)| self.measure_made("by letters apart", *signals, rows)).collect()
     }
 
     /// Rows rise from 1 to 8, with 64 letters. One row has at most 181 states; from two rows on, each further
@@ -157,7 +185,7 @@ impl Bench {
         let two = [free('a', 64), free('b', 64)];
         let mut tables = vec![vec![free('a', 181)]];
         tables.extend((2..=8).map(|rows| two.iter().cycle().take(rows).cloned().collect()));
-        tables.iter().map(|rows| self.measure_made(6, rows)).collect()
+        tables.iter().map(|rows| self.measure_made("by rows", 6, rows)).collect()
     }
 }
 
@@ -174,6 +202,13 @@ fn periodic(ticks: usize, condition: &str) -> String {
     let trigger = (ticks - 1).min(60);
     let delay = ticks - 1 - trigger;
     format!("rule 1,1,1,{trigger},{trigger},{delay},{delay},1,1,{condition},0,0\n")
+}
+
+/// A row that starts at the first tick, and breaks so many ticks later.
+fn fatal(ticks: usize) -> String {
+    let delay = ticks.min(60);
+    let trigger = ticks - delay;
+    format!("rule 1,1,1,{trigger},{trigger},{delay},{delay},0,0,0,0,0\n")
 }
 
 // ---- What is printed
@@ -196,12 +231,15 @@ impl Measured {
         self.checktable.best / self.plain.best
     }
 
-    /// The ratio of what is left when each program's own start is taken off.
-    fn work_ratio(&self) -> String {
-        match (self.checktable.work(), self.plain.work()) {
-            (Some(checktable), Some(plain)) => format!("{:.1}", checktable / plain),
-            _ => "-".into(),
-        }
+    /// The ratio of what is left when each program's own start is taken off, if that is enough of `checktable`'s.
+    /// Where `plain` has less left it counts as the least, so that no ratio is made too large by it, nor lost.
+    fn work_ratio(&self) -> Option<f64> {
+        let plain = self.plain.work().unwrap_or(LEAST_WORK);
+        self.checktable.work().map(|checktable| checktable / plain)
+    }
+
+    fn work_ratio_shown(&self) -> String {
+        self.work_ratio().map_or("-".into(), |ratio| format!("{ratio:.2}"))
     }
 }
 
@@ -222,7 +260,7 @@ fn print_tables(all: &[Measured]) {
     for one in all {
         let (ours, theirs) = (&one.checktable, &one.plain);
         print!("| `{}` | {} | {:.2} | {:.2} ", one.name, one.shape(), ours.best, ours.median);
-        println!("| {:.2} | {:.2} | {:.1} | {} |", theirs.best, theirs.median, one.ratio(), one.work_ratio());
+        println!("| {:.2} | {:.2} | {:.1} | {} |", theirs.best, theirs.median, one.ratio(), one.work_ratio_shown());
     }
 }
 
@@ -234,8 +272,21 @@ fn print_growth(title: &str, all: &[Measured]) {
         let moves = one.states.unwrap_or(0) * one.letters;
         print!("| {} | {} | {:.2} | {} ", one.shape(), thousands(moves), ours.best, ours.nanoseconds(moves));
         print!("| {:.2} | {} ", theirs.best, theirs.nanoseconds(moves));
-        println!("| {:.1} | {} |", one.ratio(), one.work_ratio());
+        println!("| {:.1} | {} |", one.ratio(), one.work_ratio_shown());
     }
+}
+
+/// One line: the largest ratio and the largest time of all tables, and whether they meet the goal.
+fn print_goal(all: &[&Measured]) {
+    let by_time = |one: &&&Measured, other: &&&Measured| one.checktable.best.total_cmp(&other.checktable.best);
+    let by_ratio = |one: &(f64, &str), other: &(f64, &str)| one.0.total_cmp(&other.0);
+    let Some(slowest) = all.iter().max_by(by_time) else { return };
+    let ratios = all.iter().filter_map(|one| Some((one.work_ratio()?, &one.name[..])));
+    let (ratio, name) = ratios.max_by(by_ratio).unwrap_or((0.0, "none"));
+    let time = slowest.checktable.best;
+    let met = if ratio <= GOAL_RATIO && time <= GOAL_TIME { "met" } else { "not met" };
+    print!("\nGoal of {GOAL_RATIO:.1} times plain less start and {GOAL_TIME} ms, on {} tables: {met}. ", all.len());
+    println!("Largest ratio less start {ratio:.2} ({name}), largest best time {time:.2} ms ({}).", slowest.name);
 }
 
 fn main() {
@@ -268,8 +319,16 @@ fn main() {
     }
     println!();
     print_tables(&measured);
-    print_growth("By states, sound:", &bench.by_states());
-    print_growth("By states, every state doomed:", &bench.by_doomed());
-    print_growth("By letters:", &bench.by_letters());
-    print_growth("By rows:", &bench.by_rows());
+    let growth = [
+        ("By states, sound:", bench.by_states()),
+        ("By states, every state doomed:", bench.by_doomed()),
+        ("By letters, many alike:", bench.by_letters()),
+        ("By letters that act apart, every state doomed:", bench.by_apart()),
+        ("By rows:", bench.by_rows()),
+    ];
+    for (title, all) in &growth {
+        print_growth(title, all);
+    }
+    let all: Vec<&Measured> = measured.iter().chain(growth.iter().flat_map(|(_, all)| all)).collect();
+    print_goal(&all);
 }

@@ -20,7 +20,7 @@ use Rattle.reader.specs.Grammar.{Answered, taken, turned}
 use Rattle.reader.proofs.Accepted.{accepted-file}
 use Rattle.reader.proofs.Answers.{read-answered}
 use Rattle.reader.proofs.Fits.{file-fits}
-use Rattle.search.specs.Same.{samePhases}
+use Rattle.scratch.specs.Same.{samePhases}
 use Rattle.search.specs.Answer.{Lent, roomOf, systemOf, refusedFound, trappedFound, traced}
 use Rattle.search.specs.Answer.{Searched, judged, searchAnswer}
 use Rattle.report.proofs.Lengths.{Few, report-short}

@@ -58,7 +58,7 @@ use Rattle.reader.proofs.Witness as I
 use Rattle.search.specs.Answer.{Lent, Searched, roomOf, systemOf, cleared, traced, refusedFound}
 use Rattle.search.specs.Answer.{soundFound, trappedFound, searchAnswer}
 use Rattle.search.specs.Bound.{mostStates}
-use Rattle.search.specs.State.{packed, unpacked}
+use Rattle.successors.specs.State.{packed, unpacked}
 use Rattle.search.specs.declared.Verdict.the-variants.{Sound as SaysSound}
 use Rattle.search.specs.declared.Verdict.the-variants.{Trapped as SaysTrapped}
 use Rattle.demands.specs.Watching.{recordAfter, Accepted}

@@ -17,21 +17,21 @@ use Rattle.traces.specs.Entries.{Entries, traceOf, Finished}
 use Rattle.traces.specs.Explore.{Entry, listed, entryAt}
 use Rattle.traces.specs.Least.{lostWithin}
 use Rattle.traces.specs.Lists.{ZeroFrom, column}
-use Rattle.traces.specs.Numbers.{Closed}
+use Rattle.traces.specs.Numbers.{Told}
 use Rattle.traces.proofs.Numbers.{strong-induction}
 use Rattle.traces.proofs.Order.{earlier-irrefl, earlier-trans, notAfter-antisym}
-use Rattle.traces.proofs.Doomed.{lost-doomed, lost-unique}
+use Rattle.traces.proofs.Doomed.{lost-doomed, lost-unique, lives-not-doomed}
 use Rattle.traces.proofs.Back.{trace-zero}
 use Rattle.traces.proofs.Count.{count-unique, fits-or-not}
 use Rattle.traces.proofs.Explore.{explore-finished, explore-more, explore-count}
 use Rattle.traces.proofs.Explored.{entry-leads, entry-step, entry-order, entry-earliest}
 use Rattle.traces.proofs.Explored.{reached-entry, entries-closed}
-use Rattle.traces.proofs.Losses.{unknown-not-doomed}
-use Rattle.traces.proofs.Settle.{SettledNumbers, settled-exists, numbers-computed}
+use Rattle.traces.proofs.Told.{told-computed}
 use Rattle.traces.proofs.Scratch.{column-length, column-at, column-beyond}
-use Rattle.search.specs.Same.{samePhases}
-use Rattle.search.specs.State.{packed}
-use Rattle.search.specs.Answer.{Lent, Searched, roomOf, systemOf, entriesWithin, zeros}
+use Rattle.scratch.specs.Same.{samePhases}
+use Rattle.successors.specs.State.{packed}
+use Rattle.scratch.specs.Room.{zeros}
+use Rattle.search.specs.Answer.{Lent, Searched, roomOf, systemOf, entriesWithin}
 use Rattle.search.specs.Answer.{searchAnswer}
 use Rattle.demands.specs.Searching.{Fit, withEntries, SameScratch, EntryShown, ScratchShown}
 use Rattle.demands.specs.Searching.{LostOrZero, EarliestDoomed, SameLengths, RightAnswer}
@@ -41,23 +41,15 @@ use Rattle.demands.proofs.Searching.{lawful, tells, answered}
 -- The lost number computed for a finished entry: 0 if it is not doomed.
 number-lost : (X : System) (law : Lawful X) (E : Entries X) → Finished X E → (e : ℕ)
     → e < E .count → LostOrZero X (E .state e) (lostWithin X (E .count) (E .state e))
-number-lost X law E x e h = go (settled-exists X law (E .count) (E .state) closed)
+number-lost X law E x e h = go (ℕ-discrete (lostWithin X (E .count) (E .state e)) 0)
   where
-    closed : Closed X (E .count) (E .state)
-    closed = entries-closed X law E x
+    told : Told X (E .count) (E .state) (λ d. lostWithin X (E .count) (E .state d))
+    told = told-computed X law (E .count) (E .state) (entries-closed X law E x)
 
-    go : SettledNumbers X law (E .count) (E .state) closed
+    go : Dec (lostWithin X (E .count) (E .state e) ≡ 0)
         → LostOrZero X (E .state e) (lostWithin X (E .count) (E .state e))
-    go r = rw (← numbers-computed X law (E .count) (E .state) closed (r .lost) (r .exact)
-        (r .settled) e h) (test (ℕ-discrete (r .lost e) 0))
-      where
-        test : Dec (r .lost e ≡ 0) → LostOrZero X (E .state e) (r .lost e)
-        test (yes z) = inl (
-          z,
-          unknown-not-doomed X law (E .count) (E .state) (x .unbroken) (r .lost)
-              (r .settled) e h z,
-        )
-        test (no z) = inr (r .exact .exact e h (omega arith))
+    go (yes z) = inl (z, lives-not-doomed X (E .state e) (told .lives e h z))
+    go (no z) = inr (told .doomed e h (omega arith))
 
 -- The entries that the search makes.
 abbrev entriesIn : (table : Table) → Lent → Entries (systemOf table)
@@ -108,7 +100,7 @@ module _ (table : Table) (lent : Lent) (n : ℕ) (fit : Fit table lent n) where
     place-at e h = column-at f (length l) (entriesWithin (roomOf lent) table)
         (omega (arith, few)) e (omega (arith, as-many))
 
-    place-end : ZeroFrom n (column f (length l) (entriesWithin (roomOf lent) table))
+    place-end : ZeroFrom 0 n (column f (length l) (entriesWithin (roomOf lent) table))
     place-end e h q =
         let few = few in
         let count = as-many in

@@ -25,7 +25,7 @@ use Rattle.traces.proofs.Count.{count-unique, fits-or-not}
 use Rattle.traces.proofs.Verdict.{trapped-unique, sound-not-doomed}
 use Rattle.traces.proofs.Answer.{answer-right, answer-only}
 use Rattle.step.proofs.Systems.{table-lawful}
-use Rattle.search.specs.Same.{samePhases}
+use Rattle.scratch.specs.Same.{samePhases}
 use Rattle.search.specs.Bound.{mostStates}
 use Rattle.search.specs.Answer.{Lent, Searched, roomOf, systemOf, traced, refusedFound}
 use Rattle.search.specs.Answer.{soundFound, trappedFound, judged, searchAnswer}
@@ -33,7 +33,7 @@ use Rattle.search.specs.declared.Found.{Found}
 use Rattle.search.specs.declared.Verdict.the-variants.{Sound as SaysSound}
 use Rattle.search.specs.declared.Verdict.the-variants.{Trapped as SaysTrapped}
 use Rattle.search.proofs.Bound.{count-bounded}
-use Rattle.search.proofs.Same.{phases-tell}
+use Rattle.scratch.proofs.Same.{phases-tell}
 use Rattle.demands.specs.Searching.{Dead, Fit, withEntries, RightAnswer, TrapShown}
 use Rattle.demands.specs.Searching.{TrapRefused, SameScratch}
 use Rattle.demands.specs.Searching.RightAnswer.{is17, is20, is21, isSound, isTrapped}

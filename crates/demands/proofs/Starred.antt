@@ -26,9 +26,9 @@ use Rattle.step.specs.Phase.{codeOf, isBroken}
 use Rattle.step.specs.Step.{actionCheck, delayCheck, triggerCheck, stepRow}
 use Rattle.step.specs.Tick.{tick, tableSystem}
 use Rattle.step.proofs.Systems.{table-lawful}
-use Rattle.search.specs.Same.{kindOf, elapsed, samePhase, samePhases}
+use Rattle.scratch.specs.Same.{kindOf, elapsed, samePhase, samePhases}
 use Rattle.search.specs.Answer.{Lent, roomOf, traced, trappedFound, judged, searchAnswer}
-use Rattle.search.proofs.Same.{phases-tell}
+use Rattle.scratch.proofs.Same.{phases-tell}
 use Rattle.demands.specs.Cases.{P, Case, Means, trappedWith, right, starred, report, delayed}
 use Rattle.demands.specs.Cases.Case.{after, traps}
 use Rattle.demands.specs.Searching.{withEntries}

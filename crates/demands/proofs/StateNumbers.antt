@@ -10,10 +10,10 @@ use Rattle.table.specs.declared.Table.{Table}
 use Rattle.table.proofs.Laws.{tableFits-rules, rulesFit-rows, rulesFit-count}
 use Rattle.traces.specs.Trace.{Reached}
 use Rattle.step.specs.declared.Phase.{Phase}
-use Rattle.search.specs.State.{packed, unpacked}
+use Rattle.successors.specs.State.{packed, unpacked}
 use Rattle.search.specs.Answer.{systemOf}
 use Rattle.search.proofs.Bound.{reached-fits, reached-length}
-use Rattle.search.proofs.Packing.{packed-back, packed-fits}
+use Rattle.successors.proofs.Packing.{packed-back, packed-fits}
 
 module _ (table : Table) (passes : tableFits table ≡ true) (phases : List Phase)
     (reached : Reached (systemOf table) phases) where

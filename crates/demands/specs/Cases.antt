@@ -17,7 +17,7 @@ use Rattle.traces.specs.Answer.Answer.{tooMany, sound, trapped}
 use Rattle.step.specs.declared.Phase.the-variants.{Waiting}
 use Rattle.step.specs.Phase.{codeOf}
 use Rattle.step.specs.Tick.{rowSystem, tableSystem}
-use Rattle.search.specs.Same.{samePhases}
+use Rattle.scratch.specs.Same.{samePhases}
 use Rattle.search.specs.Answer.{Lent, roomOf, traced, trappedFound, searchAnswer}
 use Rattle.demands.specs.Searching.{withEntries}
 

@@ -15,7 +15,7 @@ use Rattle.traces.specs.Verdict.{ReachedMany, ReachedCount, Trapped, Sound}
 use Rattle.traces.specs.Lists.{ZeroFrom}
 use Rattle.step.specs.declared.Phase.{Phase}
 use Rattle.step.specs.Tick.{startPhases}
-use Rattle.search.specs.State.{packed}
+use Rattle.successors.specs.State.{packed}
 use Rattle.search.specs.Answer.{Lent, Searched, roomOf, systemOf, entriesWithin, filled, cleared}
 use Rattle.search.specs.Answer.{atFront, traced, refusedFound, soundFound, trappedFound}
 
@@ -136,10 +136,10 @@ pub record ScratchShown (table : Table) (n : ℕ) (lent : Lent) : Type 0 where
   pub once : (e f : ℕ) → e < f → f < n → state e ≡ state f → ⊥
   pub order : (e f : ℕ) → e < f → f < n → Earlier (trace e) (trace f)
   -- "Scratch beyond the entries is set to 0, to the end of each list."
-  pub states-end : ZeroFrom n (lent .states)
-  pub befores-end : ZeroFrom n (lent .befores)
-  pub letters-end : ZeroFrom n (lent .letters)
-  pub lost-end : ZeroFrom n (lent .lost)
+  pub states-end : ZeroFrom 0 n (lent .states)
+  pub befores-end : ZeroFrom 0 n (lent .befores)
+  pub letters-end : ZeroFrom 0 n (lent .letters)
+  pub lost-end : ZeroFrom 0 n (lent .lost)
 
 -- "The earliest doomed entry's trace" w, with its lost number k.
 pub record EarliestDoomed (n : ℕ) (trace : ℕ → List ℕ) (lost : List ℕ) (w : List ℕ) (k : ℕ)

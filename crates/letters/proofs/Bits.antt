@@ -1,10 +1,11 @@
 -- Bits of numbers, and numbers as sets of letters. Assumes nothing.
 use Prim.Native.Nat.{ℕ, zero, suc, _+_, _*_, _/_, _%_, _^_, _<_, _≤_}
+use native.Mathlib.Decide.{decLt}
 use native.Mathlib.Nat.{div-one, div-eq-of-lt, lt-of-lt-of-le, one-mul}
 use native.Mathlib.Nat.{div-lt-iff-lt-mul}
 use native.Mathlib.Omega.{arith}
 use native.Mathlib.Numerals.{one-add}
-use mathlib.Core.Bool.{Bool, true, false}
+use mathlib.Core.Bool.{Bool, true, false, true≢false}
 use mathlib.Core.Path.{_≡_, refl, sym, ap, _∙_}
 use borrow.Author.Tests.{lt-ltb, ltb-true, eqb-false}
 use lib.Dec.{eqb, lit<}
@@ -24,6 +25,13 @@ bit-suc x k = rw (shr-shr x 1 k, one-add)
 pub bit-high : (x n k : ℕ) → x < 2 ^ n → n ≤ k → bitAt x k ≡ false
 unfolding bitAt
 bit-high x n k low h = rw (div-eq-of-lt (lt-of-lt-of-le low (pow-mono {i = n} {j = k} h)))
+
+pub bit-place : (x n k : ℕ) → x < 2 ^ n → bitAt x k ≡ true → k < n
+bit-place x n k low e = go (decLt k n)
+  where
+    go : Dec (k < n) → k < n
+    go (yes h) = h
+    go (no h) = absurd (true≢false (sym e ∙ bit-high x n k low (omega arith)))
 
 pub bit-lt : (b : Bool) → bit b < 2
 bit-lt true = omega arith

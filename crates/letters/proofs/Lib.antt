@@ -4,3 +4,4 @@
 pub mod Lists
 pub mod Bits
 pub mod Sets
+pub mod Lowest

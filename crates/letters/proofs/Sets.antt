@@ -1,16 +1,17 @@
 -- Sets of letters as numbers: the operations on sets are those on what holds at a letter. Assumes
 -- nothing.
 use Prim.Native.Nat.{ℕ, zero, suc, _+_, _-_, _*_, _/_, _%_, _^_, _<_, _≤_}
-use native.Mathlib.Nat.{pow-succ', two-pow-succ}
+use native.Mathlib.Decide.{decLt}
+use native.Mathlib.Nat.{pow-succ', two-pow-succ, lt-of-lt-of-le}
 use native.Mathlib.Omega.{arith}
 use native.Mathlib.Numerals.{add-one}
-use mathlib.Core.Bool.{Bool, true, false, _||_, _&&_, not, and-true}
+use mathlib.Core.Bool.{Bool, true, false, _||_, _&&_, not, and-true, true≢false}
 use mathlib.Core.Path.{_≡_, refl, sym, ap, _∙_}
 use lib.Dec.{eqb}
 use lib.Pow.{pow-mono, pow-pos}
-use lib.Bits.{bitAnd, bitOr, or-shr, or-mod, and-shr, and-mod, or-lt, and-lt, and-mask}
-use Rattle.letters.specs.Letter.{bitAt, setOf, bit}
-use Rattle.letters.proofs.Bits.{bit-zero, bit-suc, bit-lt, eqb-bit, bit-eqb}
+use lib.Bits.{bitAnd, bitOr, or-shr, or-mod, and-shr, and-mod, or-lt, and-lt, and-mask, and-le-l}
+use Rattle.letters.specs.Letter.{bitAt, inSet, setOf, bit, without}
+use Rattle.letters.proofs.Bits.{bit-zero, bit-suc, bit-place, bit-lt, eqb-bit, bit-eqb}
 
 or-bits : (x y : ℕ) → x < 2 → y < 2 → eqb (bitOr x y) 1 ≡ (eqb x 1 || eqb y 1)
 or-bits zero zero p q = refl
@@ -155,6 +156,29 @@ unfolding setOf
 setOf-true zero = refl
 setOf-true (suc n) = rw (setOf-true n, pow-succ') (omega (arith, pow-pos n))
 
+-- Sets are put together in any order.
+below-power : (x : ℕ) → x < 2 ^ x
+below-power zero = omega arith
+below-power (suc x) = rw two-pow-succ (omega (arith, below-power x))
+
+pub or-swap : (a b c : ℕ) → bitOr (bitOr a b) c ≡ bitOr (bitOr a c) b
+or-swap a b c =
+    let n = a + b + c in
+    let ha = lt-of-lt-of-le (below-power a) (pow-mono {i = a} {j = n} (omega arith)) in
+    let hb = lt-of-lt-of-le (below-power b) (pow-mono {i = b} {j = n} (omega arith)) in
+    let hc = lt-of-lt-of-le (below-power c) (pow-mono {i = c} {j = n} (omega arith)) in
+    set-ext n (bitOr (bitOr a b) c) (bitOr (bitOr a c) b)
+    (or-lt n (bitOr a b) c (or-lt n a b ha hb) hc) (or-lt n (bitOr a c) b (or-lt n a c ha hc) hb)
+    (λ l h. rw (in-or (bitOr a b) c l, in-or a b l, in-or (bitOr a c) b l, in-or a c l)
+    (swap (bitAt a l) (bitAt b l) (bitAt c l)))
+  where
+    swap : (x y z : Bool) → (x || y || z) ≡ (x || z || y)
+    swap true y z = refl
+    swap false true true = refl
+    swap false true false = refl
+    swap false false true = refl
+    swap false false false = refl
+
 -- The bits below n of a number are those of its remainder.
 pub bit-low : (n x l : ℕ) → l < n → bitAt (x % 2 ^ n) l ≡ bitAt x l
 bit-low n x l h =
@@ -165,3 +189,30 @@ pub setOf-others : (n : ℕ) (p : ℕ → Bool)
     → setOf n (λ l. not (bitAt (setOf n p) l)) ≡ setOf n (λ l. not (p l))
 setOf-others n p =
     setOf-ext n (λ l. not (bitAt (setOf n p) l)) (λ l. not (p l)) (λ l h. ap not (in-setOf n l p h))
+
+-- A set without the letters of another.
+module _ (set off : ℕ) where
+  pub without-in : (l : ℕ) → l < 64 → inSet (without set off) l ≡ (inSet set l && not (inSet off l))
+  without-in l h = in-setOf 64 l (λ i. inSet set i && not (inSet off i)) h
+
+  module _ (low : set < 2 ^ 64) where
+    without-and : bitAnd set (setOf 64 (λ i. not (inSet off i))) ≡ without set off
+    without-and =
+        ap (λ (x : ℕ). bitAnd x (setOf 64 (λ i. not (inSet off i)))) (sym (set-eta 64 set low))
+        ∙ setOf-and 64 (inSet set) (λ i. not (inSet off i))
+
+    -- what the code's `set & !off` is
+    pub without-is : off < 2 ^ 64 → bitAnd set (2 ^ 64 - 1 - off) ≡ without set off
+    without-is small = rw (others-is 64 off small) without-and
+
+    -- It is a smaller number where a letter is in both.
+    pub without-less : (l : ℕ) → inSet set l ≡ true → inSet off l ≡ true → without set off < set
+    without-less l is gone = go (decLt (without set off) set)
+      where
+        go : Dec (without set off < set) → without set off < set
+        go (yes h) = h
+        go (no h) =
+            let least = rw without-and at (and-le-l set (setOf 64 (λ i. not (inSet off i)))) in
+            let same : without set off ≡ set = omega arith in
+            absurd (true≢false (sym is ∙ ap (λ (x : ℕ). inSet x l) (sym same)
+            ∙ rw (without-in l (bit-place set 64 l low is), is, gone)))

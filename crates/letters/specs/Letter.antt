@@ -1,6 +1,6 @@
 -- Letters and sets of letters.
 use Prim.Native.Nat.{ℕ, zero, suc, _+_, _*_, _/_, _%_, _^_, min}
-use mathlib.Core.Bool.{Bool, true, false}
+use mathlib.Core.Bool.{Bool, true, false, _&&_, not, cond}
 use lib.Dec.{eqb, ltb}
 
 -- Whether bit k of the number x is 1.
@@ -40,3 +40,16 @@ bit false = 0
 unfoldable pub setOf : ℕ → (ℕ → Bool) → ℕ
 setOf zero test = 0
 setOf (suc n) test = bit (test 0) + 2 * setOf n (λ l. test (suc l))
+
+-- The letters of a set of 64 bits that are not in another.
+abbrev pub without : ℕ → ℕ → ℕ
+without set off = setOf 64 (λ letter. inSet set letter && not (inSet off letter))
+
+-- The first of n letters from l on that is in the set; the letter behind them if none is.
+unfoldable pub leastFrom : ℕ → ℕ → ℕ → ℕ
+leastFrom set zero l = l
+leastFrom set (suc n) l = cond (inSet set l) l (leastFrom set n (suc l))
+
+-- The least letter of a set of 64 bits; 64 if it has none.
+unfoldable pub leastIn : ℕ → ℕ
+leastIn set = leastFrom set 64 0

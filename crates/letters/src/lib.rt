@@ -3,6 +3,7 @@
 ghost use mathlib.Core.Path.{_≡_};
 ghost use mathlib.Core.Bool.{true, not};
 ghost use Rattle.letters.specs.Letter.{signalOn, inSet, letterFits, setFits, width, setOf};
+ghost use Rattle.letters.specs.Letter.{leastIn, without};
 
 // Whether a letter is in a set. No letter from 64 on is in one.
 pub fn contains(set: u64, letter: u8) -> bool
@@ -78,4 +79,18 @@ pub fn others(signals: u8, set: u64) -> u64
 {
     let full = all(signals);
     full - (full & set)
+}
+
+// The letters of a set that are not in another.
+pub fn without(set: u64, off: u64) -> u64
+    ensures { λ r. ⌜ r ≡ without set off ⌝ }
+{
+    set & !off
+}
+
+// The least letter of a set; 64 if it has none.
+pub fn least(set: u64) -> u8
+    ensures { λ r. ⌜ r ≡ leastIn set ⌝ }
+{
+    u64::trailing_zeros(set) as u8
 }

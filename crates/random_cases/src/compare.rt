@@ -1,4 +1,5 @@
-// The first search's answer and lists held against what is expected. Each difference is printed.
+// The first search's answer and lists held against what is expected. What differs is a set of bits,
+// whose words tally.rt prints.
 use crate::expected::ABSENT;
 use crate::expected::Expected;
 use crate::expected::SOUND;
@@ -8,23 +9,23 @@ use crate::lent::Lengths;
 use crate::lent::same8;
 use crate::lent::same16;
 use crate::lent::same64;
+use crate::second::ALL_PARTS;
 use crate::second::LETTER;
 use crate::second::LOST;
 use crate::second::PREDECESSOR;
 use crate::second::STATE;
 use crate::second::TRACE;
-use libc::STDOUT_FILENO;
 use search::Found;
 use search::Verdict;
 use table::Outcome;
 use table::Refusal;
 
-// Says what differs if it does.
-fn report(same: bool, what: &[u8]) -> bool {
-    if !same {
-        io::write_all(STDOUT_FILENO, what);
+// The bit of word n, unless the two are the same.
+pub fn unless(same: bool, n: u8) -> u16 {
+    if same {
+        return 0;
     }
-    same
+    if n < 16 { 1 << n } else { 0 }
 }
 
 fn refusal_of(outcome: Outcome) -> Refusal {
@@ -42,7 +43,7 @@ fn verdict_of(verdict: Verdict) -> u8 {
     }
 }
 
-pub fn compare_answers(found: Found, right: Expected) -> bool {
+pub fn compare_answers(found: Found, right: Expected) -> u16 {
     let outcome = found.outcome;
     let refusal = refusal_of(outcome);
     let verdict = found.verdict;
@@ -50,11 +51,11 @@ pub fn compare_answers(found: Found, right: Expected) -> bool {
     let lost = found.lost as usize;
     let count = found.count as usize;
     let refused = (refusal.number == right.number) & (refusal.line == 0);
-    report(refused, b"refusal ")
-        & report(verdict_of(verdict) == right.verdict, b"verdict ")
-        & report(length == right.length, b"trace length ")
-        & report(lost == right.lost, b"lost number ")
-        & report(count == right.count, b"count ")
+    unless(refused, 0)
+        | unless(verdict_of(verdict) == right.verdict, 1)
+        | unless(length == right.length, 2)
+        | unless(lost == right.lost, 3)
+        | unless(count == right.count, 4)
 }
 
 // Under a verdict the trace buffer has the trace, "the rest unchanged".
@@ -65,10 +66,10 @@ pub fn compare_lists(
     lost: &[u16; LONGEST],
     trace: &[u8; LONGEST],
     lengths: Lengths,
-    answer: &[u64],
+    answer: &[u64; ALL_PARTS],
     right: Expected,
     key: u64,
-) -> bool {
+) -> u16 {
     let used = right.used;
     let cleared = right.cleared;
     let n = lengths.states;
@@ -81,9 +82,5 @@ pub fn compare_lists(
     let d = same16(lost, n, answer, LOST, used, cleared, key);
     let n = lengths.trace;
     let e = same8(trace, n, answer, TRACE, right.length, false, key);
-    report(a, b"states ")
-        & report(b, b"predecessors ")
-        & report(c, b"letters ")
-        & report(d, b"lost numbers ")
-        & report(e, b"trace ")
+    unless(a, 5) | unless(b, 6) | unless(c, 7) | unless(d, 8) | unless(e, 9)
 }

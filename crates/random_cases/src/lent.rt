@@ -1,13 +1,12 @@
 // The lists that are lent to a search: their lengths, the rubbish that they hold before it, and
 // whether they then hold what document 01 says.
 ghost use mathlib.Core.Path.{_≡_};
-ghost use Prim.Native.Nat.{_≤_};
+ghost use Prim.Native.Nat.{_≤_, _<_};
 ghost use lib.ListN.{length};
-use crate::lists::get;
 use crate::random::below;
 use crate::random::mixed;
+use crate::second::ALL_PARTS;
 use crate::second::Solved;
-use crate::second::in_part;
 
 // No list is longer.
 pub const LONGEST: usize = 512;
@@ -114,15 +113,18 @@ pub fn rubbish8(key: u64) -> [u8; LONGEST]
 // What place i should hold after the search: up to `used` what the answer's part has, and past that
 // 0 if the list was cleared, else what it held.
 fn after_search(
-    answer: &[u64],
+    answer: &[u64; ALL_PARTS],
     part: usize,
     i: usize,
     used: usize,
     cleared: bool,
     key: u64,
-) -> u64 {
+) -> u64
+    requires { ⌜ part ≤ 2560 ⌝ }
+    requires { ⌜ i < 512 ⌝ }
+{
     if i < used {
-        get(answer, in_part(part, i))
+        answer[part + i]
     } else if cleared {
         0
     } else {
@@ -134,12 +136,14 @@ fn after_search(
 pub fn same64(
     list: &[u64; LONGEST],
     n: usize,
-    answer: &[u64],
+    answer: &[u64; ALL_PARTS],
     part: usize,
     used: usize,
     cleared: bool,
     key: u64,
-) -> bool {
+) -> bool
+    requires { ⌜ part ≤ 2560 ⌝ }
+{
     for i in 0..LONGEST {
         let x = after_search(answer, part, i, used, cleared, key);
         if i < n {
@@ -154,12 +158,14 @@ pub fn same64(
 pub fn same16(
     list: &[u16; LONGEST],
     n: usize,
-    answer: &[u64],
+    answer: &[u64; ALL_PARTS],
     part: usize,
     used: usize,
     cleared: bool,
     key: u64,
-) -> bool {
+) -> bool
+    requires { ⌜ part ≤ 2560 ⌝ }
+{
     for i in 0..LONGEST {
         let x = after_search(answer, part, i, used, cleared, key);
         if i < n {
@@ -174,12 +180,14 @@ pub fn same16(
 pub fn same8(
     list: &[u8; LONGEST],
     n: usize,
-    answer: &[u64],
+    answer: &[u64; ALL_PARTS],
     part: usize,
     used: usize,
     cleared: bool,
     key: u64,
-) -> bool {
+) -> bool
+    requires { ⌜ part ≤ 2560 ⌝ }
+{
     for i in 0..LONGEST {
         let x = after_search(answer, part, i, used, cleared, key);
         if i < n {

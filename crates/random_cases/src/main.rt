@@ -4,6 +4,7 @@ mod compare;
 mod doomed;
 mod earliest;
 mod expected;
+mod kinds;
 mod lent;
 mod lists;
 mod random;
@@ -43,7 +44,7 @@ fn attempt(
     table: Table,
     valid: bool,
     solved: Solved,
-    answer: &[u64],
+    answer: &[u64; ALL_PARTS],
     tally: Tally,
 ) -> Tally {
     let lengths = any_lengths(seed ^ 4, solved);
@@ -66,7 +67,7 @@ fn attempt(
         &mut lost[..d],
         &mut trace[..e],
     );
-    let same = compare_lists(
+    let differs = compare_lists(
         &states,
         &predecessors,
         &letters,
@@ -77,8 +78,8 @@ fn attempt(
         right,
         seed,
     )
-        & compare_answers(found, right);
-    counted(tally, right, table.count, same)
+        | compare_answers(found, right);
+    counted(tally, right, table.count, differs, solved.kinds)
 }
 
 // Makes a table, solves it by the second search, and tries the first on it, or now and then on the

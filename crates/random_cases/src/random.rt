@@ -96,18 +96,17 @@ fn any_range(seed: u64, scale: u8) -> Range {
 // A row with bounds below `scale`. In a slow one the trigger's ticks are fixed.
 fn any_row(seed: u64, signals: u8, scale: u8, slow: bool) -> Row {
     let own = mixed(seed);
-    let tse = any_set(own ^ 1, signals);
-    let tc = any_set(own ^ 2, signals);
-    let tee = any_set(own ^ 3, signals);
-    let ase = any_set(own ^ 4, signals);
-    let ac = any_set(own ^ 5, signals);
-    let aee = any_set(own ^ 6, signals);
+    let mut sets = [0u64; CONDITIONS];
+    for i in 0..CONDITIONS {
+        sets[i] = any_set(own ^ (1 + (i as u64)), signals);
+    }
     let t = any_range(own ^ 7, scale);
     let l = any_range(own ^ 8, scale);
     let a = any_range(own ^ 9, scale);
+    let tmin = if slow { t.most } else { t.least };
     Row {
-        sets: [tse, tc, tee, ase, ac, aee],
-        tmin: if slow { t.most } else { t.least },
+        sets,
+        tmin,
         tmax: t.most,
         lmin: l.least,
         lmax: l.most,
@@ -160,17 +159,13 @@ fn any_rows(seed: u64, signals: u8, count: u8, scale: u8, slow: bool) -> [Row; M
 
 // The bounds of a table of so many rows are below this.
 fn any_scale(seed: u64, count: u8) -> u8 {
-    let kind = byte_below(seed, 10);
     if 4 < count {
         return 2;
     }
-    match kind {
-        0 | 1 => 2,
-        2 | 3 | 4 => 3,
-        5 | 6 => 5,
-        7 => { if count == 1 { 61 } else { 6 } }
-        _ => { if count <= 2 { 20 } else { 6 } }
-    }
+    let large = if count == 1 { 61 } else { 6 };
+    let middle = if count <= 2 { 20 } else { 6 };
+    let scales = [2, 2, 3, 3, 3, 5, 5, large, middle, middle];
+    scales[(byte_below(seed, 10) % 10) as usize]
 }
 
 // A table that number 17 lets by: mostly 1 to 3 signals and 1 to 4 rows, now and then more.

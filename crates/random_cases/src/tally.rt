@@ -1,7 +1,10 @@
-// How many tables had which answer.
+// How many tables had which answer, and which kinds of paths.
+use crate::compare::unless;
 use crate::expected::Expected;
 use crate::expected::SOUND;
 use crate::expected::TRAPPED;
+use crate::kinds::Kinds;
+use crate::lists::larger;
 use crate::lists::one_more;
 use libc::STDOUT_FILENO;
 
@@ -20,7 +23,20 @@ pub struct Tally {
     pub longest_trace: usize,
     pub largest_lost: usize,
     pub most_states: usize,
+    pub walks: usize,
+    pub walks_agreed: usize,
+    pub closed: usize,
+    pub closed_back: usize,
+    pub joined: usize,
+    pub fell_back: usize,
+    pub longest_fall: usize,
 }
+
+// So many lines are printed of it.
+const LINES: usize = 21;
+
+// A walk that falls back through so many doomed states in a row is counted.
+const FALL: usize = 5;
 
 pub fn none() -> Tally {
     Tally {
@@ -38,6 +54,13 @@ pub fn none() -> Tally {
         longest_trace: 0,
         largest_lost: 0,
         most_states: 0,
+        walks: 0,
+        walks_agreed: 0,
+        closed: 0,
+        closed_back: 0,
+        joined: 0,
+        fell_back: 0,
+        longest_fall: 0,
     }
 }
 
@@ -45,21 +68,55 @@ fn one_more_if(n: usize, yes: bool) -> usize {
     if yes { one_more(n) } else { n }
 }
 
-fn larger(a: usize, b: usize) -> usize {
-    if a < b { b } else { a }
+// Prints word n of those in a text, each of which ends with `#`.
+fn print_word(text: &[u8], n: usize) {
+    let mut at: usize = 0;
+    for i in 0..text.len() {
+        let byte = text[i];
+        if byte == b'#' {
+            at = one_more(at);
+        } else if at == n {
+            let letter = [byte];
+            io::write_all(STDOUT_FILENO, &letter);
+        }
+    }
 }
 
-// The tally with one table more. If it did not agree, what differs was printed; here goes its
-// number.
-pub fn counted(t: Tally, right: Expected, rows: u8, agreed: bool) -> Tally {
-    if !agreed {
-        print_line(b"differ in table ", t.tables);
+fn print_line(text: &[u8], n: usize, number: usize) {
+    print_word(text, n);
+    io::print_decimal(STDOUT_FILENO, number as u64);
+    io::write_all(STDOUT_FILENO, b"\n");
+}
+
+// Prints what differs in a table, and its number, unless nothing differs.
+fn print_difference(bits: u16, number: usize) {
+    if bits == 0 {
+        return;
     }
+    let text: &[u8] = b"refusal #verdict #trace length #lost number #count #\
+        states #predecessors #letters #lost numbers #trace #\
+        the walk's lost numbers #differ in table #";
+    let mut left = bits;
+    for n in 0..11 {
+        if left % 2 == 1 {
+            print_word(text, n);
+        }
+        left = left / 2;
+    }
+    print_line(text, 11, number);
+}
+
+// The tally with one table more, of which `differs` says what differs. The paths are counted where
+// the lost numbers were compared.
+pub fn counted(t: Tally, right: Expected, rows: u8, differs: u16, kinds: Kinds) -> Tally {
+    print_difference(differs | unless(kinds.same, 10), t.tables);
     let sound = right.verdict == SOUND;
     let trapped = right.verdict == TRAPPED;
+    let walked = 0 < right.used;
+    let fall = if walked { kinds.longest_fall } else { 0 };
     Tally {
         tables: one_more(t.tables),
-        agreed: one_more_if(t.agreed, agreed),
+        agreed: one_more_if(t.agreed, differs == 0),
         sound: one_more_if(t.sound, sound),
         sound_with_rows: one_more_if(t.sound_with_rows, sound & (1 < rows) & (3 < right.count)),
         trapped: one_more_if(t.trapped, trapped),
@@ -72,32 +129,51 @@ pub fn counted(t: Tally, right: Expected, rows: u8, agreed: bool) -> Tally {
         longest_trace: larger(t.longest_trace, right.length),
         largest_lost: larger(t.largest_lost, right.lost),
         most_states: larger(t.most_states, right.count),
+        walks: one_more_if(t.walks, walked),
+        walks_agreed: one_more_if(t.walks_agreed, walked & kinds.same),
+        closed: one_more_if(t.closed, walked & kinds.closed),
+        closed_back: one_more_if(t.closed_back, walked & kinds.closed_back),
+        joined: one_more_if(t.joined, walked & kinds.joined),
+        fell_back: one_more_if(t.fell_back, FALL <= fall),
+        longest_fall: larger(t.longest_fall, fall),
     }
 }
 
-fn print_line(before: &[u8], n: usize) {
-    io::write_all(STDOUT_FILENO, before);
-    io::print_decimal(STDOUT_FILENO, n as u64);
-    io::write_all(STDOUT_FILENO, b"\n");
-}
-
-fn print_refusals(t: Tally) {
-    print_line(b"refused 17: ", t.refused_17);
-    print_line(b"refused 20: ", t.refused_20);
-    print_line(b"refused 21: ", t.refused_21);
-}
-
 pub fn print(t: Tally) {
-    print_line(b"tables ", t.tables);
-    print_line(b"agreed ", t.agreed);
-    print_line(b"sound ", t.sound);
-    print_line(b"  with several rows and over 3 states ", t.sound_with_rows);
-    print_line(b"trapped ", t.trapped);
-    print_line(b"  with an empty trace ", t.trapped_at_once);
-    print_line(b"  with a trace over 3 letters ", t.long_trace);
-    print_line(b"  with a lost number over 3 ", t.large_lost);
-    print_refusals(t);
-    print_line(b"longest trace ", t.longest_trace);
-    print_line(b"largest lost number ", t.largest_lost);
-    print_line(b"most states ", t.most_states);
+    let text: &[u8] = b"tables #agreed #\
+        sound #  with several rows and over 3 states #\
+        trapped #  with an empty trace #  with a trace over 3 letters #  \
+        with a lost number over 3 #\
+        refused 17: #refused 20: #refused 21: #\
+        longest trace #largest lost number #most states #\
+        walks along paths #  with the same lost numbers #  \
+        with a path that closes on itself #  with one that closes before its end #  \
+        with a path into the living #  with a fall back through 5 doomed states or more #\
+        longest fall back #";
+    let numbers = [
+        t.tables,
+        t.agreed,
+        t.sound,
+        t.sound_with_rows,
+        t.trapped,
+        t.trapped_at_once,
+        t.long_trace,
+        t.large_lost,
+        t.refused_17,
+        t.refused_20,
+        t.refused_21,
+        t.longest_trace,
+        t.largest_lost,
+        t.most_states,
+        t.walks,
+        t.walks_agreed,
+        t.closed,
+        t.closed_back,
+        t.joined,
+        t.fell_back,
+        t.longest_fall,
+    ];
+    for n in 0..LINES {
+        print_line(text, n, numbers[n]);
+    }
 }

@@ -1,5 +1,5 @@
--- Facts on numbers and lists that name no system: two inductions, a bounded test, pigeons, a
--- maximum. Assumes nothing.
+-- Facts on numbers and lists that name no system: two inductions, a bounded test, pigeons.
+-- Assumes nothing.
 use Prim.Native.Nat.{ℕ, zero, suc, _≤_, _<_}
 use native.Mathlib.Omega.{arith}
 use native.Mathlib.Decide.{ℕ-discrete}

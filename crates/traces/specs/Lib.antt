@@ -11,5 +11,6 @@ pub mod Explore
 pub mod Least
 pub mod Answer
 pub mod Numbers
+pub mod Marks
 pub mod Lists
 pub mod Matching

@@ -1,0 +1,2 @@
+-- Lists of numbers.
+pub mod Numbers
