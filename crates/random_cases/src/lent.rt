@@ -133,7 +133,7 @@ fn after_search(
 }
 
 // Whether the first n places of a list hold what they should.
-pub fn same64(
+pub(crate) fn same64(
     list: &[u64; LONGEST],
     n: usize,
     answer: &[u64; ALL_PARTS],
@@ -155,7 +155,7 @@ pub fn same64(
     true
 }
 
-pub fn same16(
+pub(crate) fn same16(
     list: &[u16; LONGEST],
     n: usize,
     answer: &[u64; ALL_PARTS],
@@ -177,7 +177,7 @@ pub fn same16(
     true
 }
 
-pub fn same8(
+pub(crate) fn same8(
     list: &[u8; LONGEST],
     n: usize,
     answer: &[u64; ALL_PARTS],
