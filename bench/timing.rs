@@ -2,9 +2,11 @@
 //! start to its end, with the table as standard input and a file as standard output. The programs take turns,
 //! so that what else the machine does falls on both. It stops where the two do not print the same report.
 //!
-//!     timing RUNS FOLDER CHECKTABLE PLAIN NOTHING TABLE...
+//!     timing RUNS FOLDER CHECKTABLE PLAIN NOTHING TABLE... -- CLIMBED...
 //!
-//! FOLDER takes reports and the tables that are made here; NOTHING is a program that does nothing.
+//! FOLDER takes reports and the tables that are made here; NOTHING is a program that does nothing. The tables
+//! behind `--` were sought to be hard for `checktable`: they are measured like the others, and the goal is not
+//! for them.
 
 use std::fs::{self, File};
 use std::path::{Path, PathBuf};
@@ -276,23 +278,32 @@ fn print_growth(title: &str, all: &[Measured]) {
     }
 }
 
-/// One line: the largest ratio and the largest time of all tables, and whether they meet the goal.
-fn print_goal(all: &[&Measured]) {
-    let by_time = |one: &&&Measured, other: &&&Measured| one.checktable.best.total_cmp(&other.checktable.best);
-    let by_ratio = |one: &(f64, &str), other: &(f64, &str)| one.0.total_cmp(&other.0);
-    let Some(slowest) = all.iter().max_by(by_time) else { return };
-    let ratios = all.iter().filter_map(|one| Some((one.work_ratio()?, &one.name[..])));
-    let (ratio, name) = ratios.max_by(by_ratio).unwrap_or((0.0, "none"));
-    let time = slowest.checktable.best;
-    let met = if ratio <= GOAL_RATIO && time <= GOAL_TIME { "met" } else { "not met" };
-    print!("\nGoal of {GOAL_RATIO:.1} times plain less start and {GOAL_TIME} ms, on {} tables: {met}. ", all.len());
-    println!("Largest ratio less start {ratio:.2} ({name}), largest best time {time:.2} ms ({}).", slowest.name);
+/// The largest ratio less start and the largest best time of some tables, each with its table's name.
+fn largest<'a>(all: &[&'a Measured]) -> [(f64, &'a str); 2] {
+    let most = |pairs: Vec<(f64, &'a str)>| {
+        let most = pairs.into_iter().max_by(|one, other| one.0.total_cmp(&other.0));
+        most.unwrap_or((0.0, "none"))
+    };
+    let ratios = all.iter().filter_map(|one| Some((one.work_ratio()?, &one.name[..]))).collect();
+    let times = all.iter().map(|one| (one.checktable.best, &one.name[..])).collect();
+    [most(ratios), most(times)]
+}
+
+/// One line: whether the tables meet the goal, their largest ratio and time, and those of the climbed ones.
+fn print_goal(all: &[&Measured], climbed: &[&Measured]) {
+    let said = |[(ratio, name), (time, slowest)]: [(f64, &str); 2]| {
+        format!("largest ratio less start {ratio:.2} ({name}), largest best time {time:.2} ms ({slowest})")
+    };
+    let [ratio, time] = largest(all);
+    let met = if ratio.0 <= GOAL_RATIO && time.0 <= GOAL_TIME { "met" } else { "not met" };
+    print!("\nGoal of {GOAL_RATIO:.1} times plain less start and {GOAL_TIME} ms, on {} tables: {met}; ", all.len());
+    println!("{}. Of the climbed ones: {}.", said([ratio, time]), said(largest(climbed)));
 }
 
 fn main() {
     let words: Vec<String> = std::env::args().skip(1).collect();
     let [runs, folder, checktable, plain, nothing, tables @ ..] = &words[..] else {
-        fail("usage: timing RUNS FOLDER CHECKTABLE PLAIN NOTHING TABLE...".into());
+        fail("usage: timing RUNS FOLDER CHECKTABLE PLAIN NOTHING TABLE... -- CLIMBED...".into());
     };
     let runs = runs.parse().ok().filter(|&runs| runs > 0);
     let runs = runs.unwrap_or_else(|| fail("RUNS is a number from 1 on".into()));
@@ -309,7 +320,12 @@ fn main() {
     let bare = (0..runs).map(|_| run(nothing.as_ref(), &bench.empty, &bench.report).0).collect();
     let (best, median) = best_and_median(bare);
     let start = bench.measure(&bench.empty);
-    let measured: Vec<_> = tables.iter().map(|table| bench.measure(table.as_ref())).collect();
+    let mut groups = tables.split(|word| word == "--");
+    let mut measure = || -> Vec<_> {
+        let group = groups.next().unwrap_or_default();
+        group.iter().map(|table| bench.measure(table.as_ref())).collect()
+    };
+    let (measured, climbed) = (measure(), measure());
 
     println!("Milliseconds, with the start of the process; {runs} runs of each program on each table.\n");
     println!("| Start alone | Best | Median |\n|-|-|-|");
@@ -329,6 +345,8 @@ fn main() {
     for (title, all) in &growth {
         print_growth(title, all);
     }
+    println!("\nFound by climbing, the most lookups:\n");
+    print_tables(&climbed);
     let all: Vec<&Measured> = measured.iter().chain(growth.iter().flat_map(|(_, all)| all)).collect();
-    print_goal(&all);
+    print_goal(&all, &climbed.iter().collect::<Vec<_>>());
 }
