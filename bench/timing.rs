@@ -2,10 +2,10 @@
 //! start to its end, with the table as standard input and a file as standard output. The programs take turns,
 //! so that what else the machine does falls on both. It stops where the two do not print the same report.
 //!
-//!     timing RUNS FOLDER CHECKTABLE PLAIN NOTHING TABLE... -- CLIMBED...
+//!     timing RUNS FOLDER CHECKTABLE PLAIN NOTHING TABLE... -- HARD...
 //!
 //! FOLDER takes reports and the tables that are made here; NOTHING is a program that does nothing. The tables
-//! behind `--` were sought to be hard for `checktable`: they are measured like the others, and the goal is not
+//! behind `--` were made or sought to be hard for `checktable`: they are measured like the others, and the goal is not
 //! for them.
 
 use std::fs::{self, File};
@@ -15,6 +15,9 @@ use std::time::Instant;
 
 /// Less work than this, in milliseconds, is lost in what a process start varies by.
 const LEAST_WORK: f64 = 0.1;
+
+/// All tables are gone through so many times, so that a disturbance of some seconds falls on none of them alone.
+const PASSES: usize = 4;
 
 /// The goal: less its start, `checktable` takes no longer than this times `plain`, and with its start no longer
 /// than so many milliseconds, on any table that is measured here.
@@ -31,11 +34,10 @@ struct Bench {
     made: PathBuf,
 }
 
-/// A program's times on a table in milliseconds, and its best on a file of no bytes in the same rounds.
+/// A program's times on a table in milliseconds, sorted, and those on a file of no bytes in the same rounds.
 struct Times {
-    best: f64,
-    median: f64,
-    start: f64,
+    on_table: Vec<f64>,
+    on_empty: Vec<f64>,
 }
 
 /// What was measured of a table, and what its file and its report say of it.
@@ -88,9 +90,9 @@ fn differ(table: &Path, checktable: &str, plain: &str) -> ! {
     fail(format!("{place}: checktable prints '{one}', plain prints '{other}'"))
 }
 
-fn best_and_median(mut all: Vec<f64>) -> (f64, f64) {
+fn sorted(mut all: Vec<f64>) -> Vec<f64> {
     all.sort_by(f64::total_cmp);
-    (all[0], all[all.len() / 2])
+    all
 }
 
 impl Bench {
@@ -112,9 +114,9 @@ impl Bench {
                 }
             }
         }
-        let [checktable, plain] = all.map(|(on_empty, on_table)| {
-            let (best, median) = best_and_median(on_table);
-            Times { best, median, start: best_and_median(on_empty).0 }
+        let [checktable, plain] = all.map(|(on_empty, on_table)| Times {
+            on_table: sorted(on_table),
+            on_empty: sorted(on_empty),
         });
         let text = read(table);
         let signals = text.lines().nth(1).map_or(0, |line| line.split(' ').count() - 1);
@@ -223,6 +225,16 @@ fn thousands(number: usize) -> String {
 }
 
 impl Measured {
+    /// With the times of another pass over the same table.
+    fn with(self, other: Measured) -> Measured {
+        let both = |one: Times, other: Times| Times {
+            on_table: sorted([one.on_table, other.on_table].concat()),
+            on_empty: sorted([one.on_empty, other.on_empty].concat()),
+        };
+        let (checktable, plain) = (both(self.checktable, other.checktable), both(self.plain, other.plain));
+        Measured { checktable, plain, ..self }
+    }
+
     /// The columns that say which table it is.
     fn shape(&self) -> String {
         let states = self.states.map_or("refused".into(), thousands);
@@ -230,7 +242,7 @@ impl Measured {
     }
 
     fn ratio(&self) -> f64 {
-        self.checktable.best / self.plain.best
+        self.checktable.best() / self.plain.best()
     }
 
     /// The ratio of what is left when each program's own start is taken off, if that is enough of `checktable`'s.
@@ -246,9 +258,17 @@ impl Measured {
 }
 
 impl Times {
+    fn best(&self) -> f64 {
+        self.on_table[0]
+    }
+
+    fn median(&self) -> f64 {
+        self.on_table[self.on_table.len() / 2]
+    }
+
     /// The best time without the process start, if that is enough to be told from the start.
     fn work(&self) -> Option<f64> {
-        Some(self.best - self.start).filter(|&work| work >= LEAST_WORK)
+        Some(self.best() - self.on_empty[0]).filter(|&work| work >= LEAST_WORK)
     }
 
     fn nanoseconds(&self, moves: usize) -> String {
@@ -261,8 +281,8 @@ fn print_tables(all: &[Measured]) {
     println!("| plain best | median | Ratio | Less start |\n|-|-|-|-|-|-|-|-|-|-|");
     for one in all {
         let (ours, theirs) = (&one.checktable, &one.plain);
-        print!("| `{}` | {} | {:.2} | {:.2} ", one.name, one.shape(), ours.best, ours.median);
-        println!("| {:.2} | {:.2} | {:.1} | {} |", theirs.best, theirs.median, one.ratio(), one.work_ratio_shown());
+        print!("| `{}` | {} | {:.2} | {:.2} ", one.name, one.shape(), ours.best(), ours.median());
+        println!("| {:.2} | {:.2} | {:.1} | {} |", theirs.best(), theirs.median(), one.ratio(), one.work_ratio_shown());
     }
 }
 
@@ -272,8 +292,8 @@ fn print_growth(title: &str, all: &[Measured]) {
     for one in all {
         let (ours, theirs) = (&one.checktable, &one.plain);
         let moves = one.states.unwrap_or(0) * one.letters;
-        print!("| {} | {} | {:.2} | {} ", one.shape(), thousands(moves), ours.best, ours.nanoseconds(moves));
-        print!("| {:.2} | {} ", theirs.best, theirs.nanoseconds(moves));
+        print!("| {} | {} | {:.2} | {} ", one.shape(), thousands(moves), ours.best(), ours.nanoseconds(moves));
+        print!("| {:.2} | {} ", theirs.best(), theirs.nanoseconds(moves));
         println!("| {:.1} | {} |", one.ratio(), one.work_ratio_shown());
     }
 }
@@ -285,25 +305,25 @@ fn largest<'a>(all: &[&'a Measured]) -> [(f64, &'a str); 2] {
         most.unwrap_or((0.0, "none"))
     };
     let ratios = all.iter().filter_map(|one| Some((one.work_ratio()?, &one.name[..]))).collect();
-    let times = all.iter().map(|one| (one.checktable.best, &one.name[..])).collect();
+    let times = all.iter().map(|one| (one.checktable.best(), &one.name[..])).collect();
     [most(ratios), most(times)]
 }
 
-/// One line: whether the tables meet the goal, their largest ratio and time, and those of the climbed ones.
-fn print_goal(all: &[&Measured], climbed: &[&Measured]) {
+/// One line: whether the tables meet the goal, their largest ratio and time, and those of the hard ones.
+fn print_goal(all: &[&Measured], hard: &[&Measured]) {
     let said = |[(ratio, name), (time, slowest)]: [(f64, &str); 2]| {
         format!("largest ratio less start {ratio:.2} ({name}), largest best time {time:.2} ms ({slowest})")
     };
     let [ratio, time] = largest(all);
     let met = if ratio.0 <= GOAL_RATIO && time.0 <= GOAL_TIME { "met" } else { "not met" };
     print!("\nGoal of {GOAL_RATIO:.1} times plain less start and {GOAL_TIME} ms, on {} tables: {met}; ", all.len());
-    println!("{}. Of the climbed ones: {}.", said([ratio, time]), said(largest(climbed)));
+    println!("{}. Of the hard ones: {}.", said([ratio, time]), said(largest(hard)));
 }
 
 fn main() {
     let words: Vec<String> = std::env::args().skip(1).collect();
     let [runs, folder, checktable, plain, nothing, tables @ ..] = &words[..] else {
-        fail("usage: timing RUNS FOLDER CHECKTABLE PLAIN NOTHING TABLE... -- CLIMBED...".into());
+        fail("usage: timing RUNS FOLDER CHECKTABLE PLAIN NOTHING TABLE... -- HARD...".into());
     };
     let runs = runs.parse().ok().filter(|&runs| runs > 0);
     let runs = runs.unwrap_or_else(|| fail("RUNS is a number from 1 on".into()));
@@ -317,36 +337,42 @@ fn main() {
         made: folder.join("made.pnp"),
     };
     write(&bench.empty, "");
-    let bare = (0..runs).map(|_| run(nothing.as_ref(), &bench.empty, &bench.report).0).collect();
-    let (best, median) = best_and_median(bare);
-    let start = bench.measure(&bench.empty);
     let mut groups = tables.split(|word| word == "--");
-    let mut measure = || -> Vec<_> {
-        let group = groups.next().unwrap_or_default();
-        group.iter().map(|table| bench.measure(table.as_ref())).collect()
+    let (tables, hard) = (groups.next().unwrap_or_default(), groups.next().unwrap_or_default());
+    let measure = |tables: &[String]| tables.iter().map(|table| bench.measure(table.as_ref())).collect();
+    let pass = || -> Vec<Vec<Measured>> {
+        let start = vec![bench.measure(&bench.empty)];
+        let growth = [bench.by_states(), bench.by_doomed(), bench.by_letters(), bench.by_apart(), bench.by_rows()];
+        [start, measure(tables), measure(hard)].into_iter().chain(growth).collect()
     };
-    let (measured, climbed) = (measure(), measure());
+    let mut all = pass();
+    for _ in 1..PASSES {
+        let more = all.into_iter().zip(pass());
+        all = more.map(|(one, other)| one.into_iter().zip(other).map(|(a, b)| a.with(b)).collect()).collect();
+    }
+    let [start, measured, hard, growth @ ..] = &all[..] else { return };
 
-    println!("Milliseconds, with the start of the process; {runs} runs of each program on each table.\n");
+    println!("Milliseconds, with the start of the process; {} runs of each program on each table.\n", PASSES * runs);
     println!("| Start alone | Best | Median |\n|-|-|-|");
-    println!("| a program that does nothing | {best:.2} | {median:.2} |");
-    for (name, times) in [("checktable", start.checktable), ("plain", start.plain)] {
-        println!("| `{name}` on a file of no bytes | {:.2} | {:.2} |", times.best, times.median);
+    let bare = sorted((0..runs).map(|_| run(nothing.as_ref(), &bench.empty, &bench.report).0).collect());
+    println!("| a program that does nothing | {:.2} | {:.2} |", bare[0], bare[runs / 2]);
+    for (name, times) in [("checktable", &start[0].checktable), ("plain", &start[0].plain)] {
+        println!("| `{name}` on a file of no bytes | {:.2} | {:.2} |", times.best(), times.median());
     }
     println!();
-    print_tables(&measured);
-    let growth = [
-        ("By states, sound:", bench.by_states()),
-        ("By states, every state doomed:", bench.by_doomed()),
-        ("By letters, many alike:", bench.by_letters()),
-        ("By letters that act apart, every state doomed:", bench.by_apart()),
-        ("By rows:", bench.by_rows()),
+    print_tables(measured);
+    let titles = [
+        "By states, sound:",
+        "By states, every state doomed:",
+        "By letters, many alike:",
+        "By letters that act apart, every state doomed:",
+        "By rows:",
     ];
-    for (title, all) in &growth {
+    for (title, all) in titles.iter().zip(growth) {
         print_growth(title, all);
     }
-    println!("\nFound by climbing, the most lookups:\n");
-    print_tables(&climbed);
-    let all: Vec<&Measured> = measured.iter().chain(growth.iter().flat_map(|(_, all)| all)).collect();
-    print_goal(&all, &climbed.iter().collect::<Vec<_>>());
+    println!("\nMade or sought to be hard:\n");
+    print_tables(hard);
+    let all: Vec<&Measured> = measured.iter().chain(growth.iter().flatten()).collect();
+    print_goal(&all, &hard.iter().collect::<Vec<_>>());
 }
