@@ -2,11 +2,9 @@
 //! start to its end, with the table as standard input and a file as standard output. The programs take turns,
 //! so that what else the machine does falls on both. It stops where the two do not print the same report.
 //!
-//!     timing RUNS FOLDER CHECKTABLE PLAIN NOTHING TABLE... -- HARD...
+//!     timing RUNS FOLDER CHECKTABLE PLAIN NOTHING TABLE...
 //!
-//! FOLDER takes reports and the tables that are made here; NOTHING is a program that does nothing. The tables
-//! behind `--` were made or sought to be hard for `checktable`: they are measured like the others, and the goal is not
-//! for them.
+//! FOLDER takes reports and the tables that are made here; NOTHING is a program that does nothing.
 
 use std::fs::{self, File};
 use std::path::{Path, PathBuf};
@@ -309,21 +307,22 @@ fn largest<'a>(all: &[&'a Measured]) -> [(f64, &'a str); 2] {
     [most(ratios), most(times)]
 }
 
-/// One line: whether the tables meet the goal, their largest ratio and time, and those of the hard ones.
-fn print_goal(all: &[&Measured], hard: &[&Measured]) {
-    let said = |[(ratio, name), (time, slowest)]: [(f64, &str); 2]| {
-        format!("largest ratio less start {ratio:.2} ({name}), largest best time {time:.2} ms ({slowest})")
+/// One line: whether all tables meet the goal, their largest ratio and time, and which are over it.
+fn print_goal(all: &[&Measured]) {
+    let [(ratio, name), (time, slowest)] = largest(all);
+    let is_over = |one: &Measured| {
+        one.checktable.best() > GOAL_TIME || one.work_ratio().is_some_and(|ratio| ratio > GOAL_RATIO)
     };
-    let [ratio, time] = largest(all);
-    let met = if ratio.0 <= GOAL_RATIO && time.0 <= GOAL_TIME { "met" } else { "not met" };
-    print!("\nGoal of {GOAL_RATIO:.1} times plain less start and {GOAL_TIME} ms, on {} tables: {met}; ", all.len());
-    println!("{}. Of the hard ones: {}.", said([ratio, time]), said(largest(hard)));
+    let over: Vec<&str> = all.iter().filter(|one| is_over(one)).map(|one| &one.name[..]).collect();
+    let met = if over.is_empty() { "met".into() } else { format!("not met by {}", over.join("; ")) };
+    print!("\nGoal of {GOAL_RATIO:.1} times plain less start and {GOAL_TIME} ms, on {} tables: {met}. ", all.len());
+    println!("Largest ratio less start {ratio:.2} ({name}), largest best time {time:.2} ms ({slowest}).");
 }
 
 fn main() {
     let words: Vec<String> = std::env::args().skip(1).collect();
     let [runs, folder, checktable, plain, nothing, tables @ ..] = &words[..] else {
-        fail("usage: timing RUNS FOLDER CHECKTABLE PLAIN NOTHING TABLE... -- HARD...".into());
+        fail("usage: timing RUNS FOLDER CHECKTABLE PLAIN NOTHING TABLE...".into());
     };
     let runs = runs.parse().ok().filter(|&runs| runs > 0);
     let runs = runs.unwrap_or_else(|| fail("RUNS is a number from 1 on".into()));
@@ -337,20 +336,18 @@ fn main() {
         made: folder.join("made.pnp"),
     };
     write(&bench.empty, "");
-    let mut groups = tables.split(|word| word == "--");
-    let (tables, hard) = (groups.next().unwrap_or_default(), groups.next().unwrap_or_default());
-    let measure = |tables: &[String]| tables.iter().map(|table| bench.measure(table.as_ref())).collect();
     let pass = || -> Vec<Vec<Measured>> {
         let start = vec![bench.measure(&bench.empty)];
         let growth = [bench.by_states(), bench.by_doomed(), bench.by_letters(), bench.by_apart(), bench.by_rows()];
-        [start, measure(tables), measure(hard)].into_iter().chain(growth).collect()
+        let tables = tables.iter().map(|table| bench.measure(table.as_ref())).collect();
+        [start, tables].into_iter().chain(growth).collect()
     };
     let mut all = pass();
     for _ in 1..PASSES {
         let more = all.into_iter().zip(pass());
         all = more.map(|(one, other)| one.into_iter().zip(other).map(|(a, b)| a.with(b)).collect()).collect();
     }
-    let [start, measured, hard, growth @ ..] = &all[..] else { return };
+    let [start, measured, growth @ ..] = &all[..] else { return };
 
     println!("Milliseconds, with the start of the process; {} runs of each program on each table.\n", PASSES * runs);
     println!("| Start alone | Best | Median |\n|-|-|-|");
@@ -371,8 +368,6 @@ fn main() {
     for (title, all) in titles.iter().zip(growth) {
         print_growth(title, all);
     }
-    println!("\nMade or sought to be hard:\n");
-    print_tables(hard);
     let all: Vec<&Measured> = measured.iter().chain(growth.iter().flatten()).collect();
-    print_goal(&all, &hard.iter().collect::<Vec<_>>());
+    print_goal(&all);
 }
