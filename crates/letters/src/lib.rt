@@ -1,7 +1,8 @@
 // Letters, and sets of letters as numbers: letter l is in the set where bit l is 1.
 // specs/Letter.antt says what is right.
 ghost use mathlib.Core.Path.{_≡_};
-ghost use mathlib.Core.Bool.{true, not};
+ghost use mathlib.Core.Bool.{true, _&&_, not};
+ghost use lib.Dec.{eqb};
 ghost use Rattle.letters.specs.Letter.{signalOn, inSet, letterFits, setFits, width, setOf};
 ghost use Rattle.letters.specs.Letter.{leastIn, without};
 
@@ -93,4 +94,11 @@ pub fn least(set: u64) -> u8
     ensures { λ r. ⌜ r ≡ leastIn set ⌝ }
 {
     u64::trailing_zeros(set) as u8
+}
+
+// Whether a set has a letter, and a letter is its least one.
+pub fn is_least(set: u64, letter: u8) -> bool
+    ensures { λ r. ⌜ r ≡ (not (eqb set 0) && eqb (leastIn set) letter) ⌝ }
+{
+    (set != 0) & (least(set) == letter)
 }
