@@ -14,7 +14,7 @@ use Rattle.search.specs.Answer.{Lent, Searched, roomOf, systemOf, cleared, soun
 use Rattle.search.specs.Answer.{trappedFound, searchAnswer}
 use Rattle.demands.specs.Searching.{Fit, withEntries, RightAnswer, SameLengths, SameScratch}
 use Rattle.demands.specs.Searching.RightAnswer.{is17, is20, is21, isSound, isTrapped}
-use Rattle.demands.proofs.Searching.{answered, answer-is, not-17, not-20, same-count}
+use Rattle.demands.proofs.SearchLaws.{answered, answer-is, not-17, not-20, same-count}
 
 -- Lent memory of the same lengths: the answers differ at most in what 17 leaves, and in the trace
 -- buffer.

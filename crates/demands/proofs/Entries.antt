@@ -36,7 +36,7 @@ use Rattle.search.specs.Answer.{searchAnswer}
 use Rattle.demands.specs.Searching.{Fit, withEntries, SameScratch, EntryShown, ScratchShown}
 use Rattle.demands.specs.Searching.{LostOrZero, EarliestDoomed, SameLengths, RightAnswer}
 use Rattle.demands.specs.Searching.RightAnswer.{is17, is20, is21, isSound, isTrapped}
-use Rattle.demands.proofs.Searching.{lawful, tells, answered}
+use Rattle.demands.proofs.SearchLaws.{lawful, tells, answered}
 
 -- The lost number computed for a finished entry: 0 if it is not doomed.
 number-lost : (X : System) (law : Lawful X) (E : Entries X) → Finished X E → (e : ℕ)

@@ -1,13 +1,19 @@
--- Read `Demands` and the specs: nothing else has to be believed. `Starred` is the worked cases,
--- `Whole` their texts and the whole report; `Watching` proves of the watcher, `Words`, `Searching`,
--- `Entries`, `Alike` and `StateNumbers` of the search, and `Reporting` of the report.
+-- Read `Demands` and the specs: nothing else has to be believed. What is promised besides stands by
+-- subject: `Reading`, `Watching`, `Searching`, `Reporting`, `Cases`. Below them are proofs:
+-- `WatchLaws`; `Words`, `SearchLaws`, `Entries`, `Alike` and `StateNumbers` of the search;
+-- `ReportLaws`; `Starred` and `Whole` of the worked cases.
 pub mod Demands
-pub mod Starred
+pub mod Reading
 pub mod Watching
-pub mod Words
 pub mod Searching
+pub mod Reporting
+pub mod Cases
+pub mod WatchLaws
+pub mod Words
+pub mod SearchLaws
 pub mod Entries
 pub mod Alike
 pub mod StateNumbers
-pub mod Reporting
+pub mod ReportLaws
+pub mod Starred
 pub mod Whole

@@ -1,105 +1,86 @@
--- What is reported of each file, by what is so of its table. Assumes nothing.
-use Prim.Native.Nat.{ℕ, suc, _<_, _≤_}
-use native.Mathlib.Omega.{arith}
-use mathlib.Core.Bool.{true}
+-- What is promised of the report and the program, each with its proof. Assumes nothing.
+use Prim.Native.Nat.{ℕ, suc, _≤_}
 use mathlib.Core.List.{List, [], _∷_, _++_}
-use mathlib.Core.Path.{_≡_, refl}
-use lib.ListN.{length, length-append, length-replicate}
-use lib.Seq.{take-at}
-use borrow.Author.Tests.{lt-ltb}
-use Rattle.letters.specs.Letter.{letters, letterFits}
-use Rattle.letters.specs.Lists.{every}
+use mathlib.Core.Path.{_≡_}
+use lib.ListN.{length, take}
+use native.Mathlib.Nat.{lt-of-lt-of-le}
 use Rattle.table.specs.declared.Table.{Table}
-use Rattle.traces.specs.Trace.{AllBelow}
 use Rattle.traces.specs.Verdict.{ReachedMany, Trapped, Sound}
 use Rattle.text.specs.Bounds.{decimal}
 use Rattle.text.specs.Lines.{ended}
-use Rattle.reader.specs.File.{readAnswer, refusedFile}
+use Rattle.reader.specs.File.{refusedFile, readAnswer}
 use Rattle.reader.specs.Grammar.{IsFile}
-use Rattle.reader.proofs.Accepted.{file-accepted}
-use Rattle.reader.proofs.Fits.{file-fits}
-use Rattle.search.specs.Answer.{Lent, Searched, roomOf, systemOf, searchAnswer}
-use Rattle.report.specs.Report.{heading, refusedLine, sizeLines, soundLine, trappedLine, tickLines}
+use Rattle.search.specs.Answer.{Lent, roomOf, systemOf}
+use Rattle.search.specs.Answer.{searchAnswer}
+use Rattle.demands.specs.Searching.{Fit}
 use Rattle.report.specs.declared.Answer.{Answer as Told}
-use Rattle.report.specs.Report.{lostWord, reportLines, traceLength, Shows}
+use Rattle.report.specs.Report.{heading, refusedLine, sizeLines, soundLine, trappedLine, tickLines}
+use Rattle.report.specs.Report.{lostWord, reportBytes, traceLength, Shows}
+use Rattle.report.proofs.Telling as Telling
 use Rattle.checker.specs.Answer.{sizeOf, answerOf, checkAnswer, programLent}
-use Rattle.demands.specs.Searching.{Fit, RightAnswer}
-use Rattle.demands.specs.Searching.RightAnswer.{is17, is20, is21, isSound, isTrapped}
-use Rattle.demands.proofs.Searching as S
+use Rattle.checker.proofs.Short as Short
+use Rattle.demands.specs.Cases.{report}
+use Rattle.demands.proofs.ReportLaws as Laws
+use Rattle.demands.proofs.Searching.{trace-low}
 
+-- The report. Different answers give different reports: where the bytes are the same, so are the
+-- answer and its trace, for one number of signals. What the search finds in a table is such an
+-- answer (`Shows`).
+pub searched-shows : (table : Table) (lent : Lent)
+    → Shows (table .signals) (searchAnswer table lent .lent .trace)
+    (answerOf (table .count) (searchAnswer table lent .found))
+searched-shows = Laws.searched-shows
+
+module _ (signals : ℕ) (one other : Told) (b c : List ℕ) (shows : Shows signals b one)
+    (tells : Shows signals c other)
+    (same : reportBytes signals b one ≡ reportBytes signals c other) where
+  pub same-answer : one ≡ other
+  same-answer = Telling.same-answer signals one other b c shows tells same
+
+  pub same-trace : take (traceLength one) b ≡ take (traceLength other) c
+  same-trace = Telling.same-trace signals one other b c shows tells same
+
+-- From the bytes of any file to the bytes of its report, in any lent memory. "A refused one prints
+-- the first line and `refused 13 line 3`, with its own number and line"; lent memory is unchanged.
 module _ (bytes : List ℕ) (lent : Lent) where
   pub refused-report : (number line : ℕ) → readAnswer bytes ≡ refusedFile number line
       → checkAnswer bytes lent
       ≡ record { report = ended (heading ∷ refusedLine number line ∷ []); lent = lent }
-  unfolding checkAnswer reportLines
-  refused-report number line e = rw e
+  refused-report = Laws.refused-report bytes lent
 
+  -- An accepted file's table is searched: there are more reached states than room, or the table is
+  -- sound, or it is trapped.
   module _ (table : Table) (file : IsFile bytes table) where
     pub searched-lent : checkAnswer bytes lent .lent ≡ searchAnswer table lent .lent
-    unfolding checkAnswer
-    searched-lent = rw (file-accepted bytes table file)
+    searched-lent = Laws.searched-lent bytes lent table file
 
     pub many-report : ReachedMany (systemOf table) (suc (roomOf lent))
         → checkAnswer bytes lent .report ≡ ended (heading ∷ refusedLine 20 0 ∷ [])
-    unfolding checkAnswer answerOf reportLines
-    many-report many =
-        let answer = S.answer-is table lent (is20 (file-fits bytes table file) many) in
-        rw (file-accepted bytes table file, answer)
+    many-report = Laws.many-report bytes lent table file
 
+    -- "A sound table ends after `verdict sound`."
     module _ (n : ℕ) (fit : Fit table lent n) where
       pub sound-report : Sound (systemOf table)
           → checkAnswer bytes lent .report
           ≡ ended (heading ∷ sizeLines (sizeOf (table .count) n) ++ soundLine ∷ [])
-      unfolding checkAnswer answerOf reportLines
-      sound-report sound =
-          rw (file-accepted bytes table file, S.answer-is table lent (isSound fit sound))
+      sound-report = Laws.sound-report bytes lent table file n fit
 
       pub trapped-report : (w : List ℕ) (k : ℕ) → Trapped (systemOf table) w k
           → length w ≤ length (lent .trace)
           → checkAnswer bytes lent .report
           ≡ ended (heading ∷ sizeLines (sizeOf (table .count) n) ++ trappedLine
           ∷ tickLines (table .signals) 1 w ++ (lostWord ++ decimal k) ∷ [])
-      unfolding checkAnswer answerOf reportLines
-      trapped-report w k trapped short =
-          rw (
-            file-accepted bytes table file,
-            S.answer-is table lent (isTrapped fit trapped short),
-            take-at w _ (length w) refl,
-          )
+      trapped-report = Laws.trapped-report bytes lent table file n fit
 
--- The letters of an unbroken trace are letters of the table.
-below-fits : (s : ℕ) (w : List ℕ) → AllBelow (letters s) w → every (letterFits s) w ≡ true
-unfolding every
-below-fits s [] h = refl
-below-fits s (l ∷ w) h = rw (lt-ltb l (letters s) (h .0), below-fits s w (h .1))
-
--- An answer without a trace shows none.
-no-trace : (s : ℕ) (buffer : List ℕ) (answer : Told) → traceLength answer ≡ 0
-    → Shows s buffer answer
-unfolding every
-no-trace s buffer answer e = record { whole = rw e (omega arith); letters = rw e }
-
-pub searched-shows : (table : Table) (lent : Lent)
-    → Shows (table .signals) (searchAnswer table lent .lent .trace)
-    (answerOf (table .count) (searchAnswer table lent .found))
-unfolding answerOf
-searched-shows table lent = go _ (S.answered table lent)
-  where
-    go : (a : Searched) → RightAnswer table lent a
-        → Shows (table .signals) (a .lent .trace) (answerOf (table .count) (a .found))
-    go a (is17 p) = no-trace _ _ _ refl
-    go a (is20 p m) = no-trace _ _ _ refl
-    go a (is21 f t long) = no-trace _ _ _ refl
-    go a (isSound f s) = no-trace _ _ _ refl
-    go a (isTrapped {w = w} f t short) = record {
-      whole = rw length-append (omega arith);
-      letters = rw (take-at w _ (length w) refl) (below-fits _ w (t .fine .letters));
-    }
-
--- What the program lends.
+-- "The program lends room 4,096 and a trace buffer of as many bytes": it always shows the trace,
+-- never refused with 21, and its own buffer holds every report.
 pub program-room : roomOf programLent ≡ 4096
-unfolding roomOf
-program-room = let long = length-replicate {A = ℕ} 4096 0 in omega arith
+program-room = Laws.program-room
 
-pub program-long : {m : ℕ} → m < roomOf programLent → m ≤ length (programLent .trace)
-program-long low = rw length-replicate (omega (arith, rw program-room at low))
+pub program-shows : (table : Table) (n : ℕ) → Fit table programLent n → (w : List ℕ) (k : ℕ)
+    → Trapped (systemOf table) w k → length w ≤ length (programLent .trace)
+program-shows table n fit w k trapped =
+    Laws.program-long (lt-of-lt-of-le (trace-low table programLent n fit w k trapped) (fit .room))
+
+pub program-short : (bytes : List ℕ) → length (checkAnswer bytes programLent .report) ≤ 70000
+program-short = Short.program-short

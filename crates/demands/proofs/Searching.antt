@@ -1,336 +1,159 @@
--- What the search answers, and what each answer says. Assumes nothing.
-use Prim.Native.Nat.{ℕ, suc, _≤_, _<_}
-use native.Mathlib.Decide.{decLe}
-use native.Mathlib.Omega.{arith}
-use mathlib.Core.Bool.{Bool, true, false, true≢false, cond}
+-- What is promised of the search, each with its proof. Assumes nothing.
+use Prim.Native.Nat.{ℕ, suc, _^_, _<_, _≤_}
+use mathlib.Core.Bool.{true, false}
 use mathlib.Core.List.{List}
 use mathlib.Core.Logic.{_⊎_, _↔_}
-use mathlib.Core.Logic._⊎_.{inl, inr}
-use mathlib.Core.Path.{_≡_, refl, sym, ap, _∙_}
-use borrow.Author.Tests.{le-leb, lt-leb}
-use lib.Dec.{leb}
+use mathlib.Core.Path.{_≡_}
 use lib.ListN.{length}
-use Rattle.table.specs.Refusal.{numberOf, lineOf}
 use Rattle.table.specs.Valid.{tableFits, rowsOf}
 use Rattle.table.specs.declared.Table.{Table}
-use Rattle.traces.specs.System.{Lawful}
-use Rattle.traces.specs.Trace.{run, Unbroken}
+use Rattle.traces.specs.System.{System}
+use Rattle.traces.specs.Trace.{run, Unbroken, Reached}
 use Rattle.traces.specs.Doomed.{Doomed}
 use Rattle.traces.specs.Verdict.{ReachedMany, Trapped, Sound}
-use Rattle.traces.specs.Explore.{Tells}
-use Rattle.traces.specs.Answer.{Answer, Right, answer}
-use Rattle.traces.specs.Answer.Answer.{tooMany, sound, trapped}
-use Rattle.traces.specs.Answer.Right.{tooMany-right, sound-right, trapped-right}
-use Rattle.traces.proofs.Count.{count-unique, fits-or-not}
-use Rattle.traces.proofs.Verdict.{trapped-unique, sound-not-doomed}
-use Rattle.traces.proofs.Answer.{answer-right, answer-only}
-use Rattle.step.proofs.Systems.{table-lawful}
-use Rattle.scratch.specs.Same.{samePhases}
+use Rattle.traces.proofs.Verdict.{trapped-not-sound}
+use Rattle.step.specs.declared.Phase.{Phase}
+use Rattle.table.specs.Refusal.{numberOf, lineOf}
+use Rattle.search.specs.Answer.{Lent, roomOf, systemOf, cleared, traced, refusedFound}
+use Rattle.search.specs.Answer.{soundFound, trappedFound, searchAnswer}
 use Rattle.search.specs.Bound.{mostStates}
-use Rattle.search.specs.Answer.{Lent, Searched, roomOf, systemOf, traced, refusedFound}
-use Rattle.search.specs.Answer.{soundFound, trappedFound, judged, searchAnswer}
-use Rattle.search.specs.declared.Found.{Found}
+use Rattle.successors.specs.State.{packed, unpacked}
 use Rattle.search.specs.declared.Verdict.the-variants.{Sound as SaysSound}
 use Rattle.search.specs.declared.Verdict.the-variants.{Trapped as SaysTrapped}
-use Rattle.search.proofs.Bound.{count-bounded}
-use Rattle.scratch.proofs.Same.{phases-tell}
-use Rattle.demands.specs.Searching.{Dead, Fit, withEntries, RightAnswer, TrapShown}
-use Rattle.demands.specs.Searching.{TrapRefused, SameScratch}
-use Rattle.demands.specs.Searching.RightAnswer.{is17, is20, is21, isSound, isTrapped}
-use Rattle.demands.proofs.Words.{dead-doomed, trapped-shown}
-
-module _ (table : Table) where
-  pub lawful : Lawful (systemOf table)
-  lawful = table-lawful (table .signals) (rowsOf table)
-
-  pub tells : Tells (systemOf table) samePhases
-  tells = phases-tell (table .signals) (rowsOf table)
+use Rattle.demands.specs.Searching.{Dead, Shown, CanGoOn, Fit, withEntries}
+use Rattle.demands.specs.Searching.{TrapShown, TrapRefused, SameLengths, SameScratch}
+use Rattle.demands.specs.Searching.{ScratchShown, EarliestDoomed}
+use Rattle.demands.specs.Searching.RightAnswer.{is17, is20}
+use Rattle.demands.proofs.Words as Words
+use Rattle.demands.proofs.SearchLaws as Laws
+use Rattle.demands.proofs.Entries as Entries
+use Rattle.demands.proofs.StateNumbers as Numbers
 
 module _ (table : Table) (lent : Lent) where
-  -- Each call has one of the five answers.
-  judged-answered : tableFits table ≡ true → (r : Answer) → Right (systemOf table) (roomOf lent) r
-      → RightAnswer table lent (judged r lent (withEntries table lent))
-  unfolding judged
-  judged-answered p r (tooMany-right m) = is20 p m
-  judged-answered p r (sound-right c h s) = isSound (record { passes = p; count = c; room = h }) s
-  judged-answered p r (trapped-right {n = n} {k = k} {w = w} c h t) =
-      go (decLe (length w) (length (lent .trace)))
-    where
-      fit : Fit table lent n
-      fit = record { passes = p; count = c; room = h }
+  -- "A refusal gives number and line: .. else 0." Every list keeps its length.
+  pub search-line : lineOf (searchAnswer table lent .found .outcome) ≡ 0
+  search-line = Laws.line-zero table lent
 
-      go : Dec (length w ≤ length (lent .trace))
-          → RightAnswer table lent (cond (leb (length w) (length (lent .trace)))
-          (record { found = trappedFound n w k; lent = traced w (withEntries table lent) })
-          (record { found = refusedFound 21; lent = withEntries table lent }))
-      go (yes d) = rw (le-leb (length w) (length (lent .trace)) d) (isTrapped fit t d)
-      go (no d) = rw (lt-leb (length w) (length (lent .trace)) (omega arith))
-          (is21 fit t (omega arith))
+  pub search-lengths : SameLengths lent (searchAnswer table lent .lent)
+  search-lengths = Entries.lengths-kept table lent
 
-  pub answered : RightAnswer table lent (searchAnswer table lent)
-  unfolding searchAnswer
-  answered = go (tableFits table) refl
-    where
-      go : (b : Bool) → tableFits table ≡ b → RightAnswer table lent (cond b
-          (judged (answer (systemOf table) samePhases (roomOf lent)) lent (withEntries table lent))
-          (record { found = refusedFound 17; lent = lent }))
-      go true p = judged-answered p _
-          (answer-right (systemOf table) (roomOf lent) (lawful table) samePhases (tells table))
-      go false p = is17 p
+  -- 17: "a table value .. that no accepted file has"; "lent memory is unchanged".
+  pub refused-17 : tableFits table ≡ false
+      → searchAnswer table lent ≡ record { found = refusedFound 17; lent = lent }
+  refused-17 p = Laws.answer-is table lent (is17 p)
 
-  -- And no other: what one of them says fixes all of the answer.
-  pub right-judged : tableFits table ≡ true → (r : Answer) → Right (systemOf table) (roomOf lent) r
-      → searchAnswer table lent ≡ judged r lent (withEntries table lent)
-  unfolding searchAnswer
-  right-judged p r t = rw (
-    p,
-    answer-only (systemOf table) (roomOf lent) (lawful table) samePhases (tells table) r t,
-  )
-
-  pub answer-is : {a : Searched} → RightAnswer table lent a → searchAnswer table lent ≡ a
-  unfolding judged
-  answer-is (is17 p) = unfold searchAnswer in rw p
-  answer-is (is20 p m) = right-judged p tooMany (tooMany-right m)
-  answer-is (is21 {n = n} {k = k} {w = w} f t l) =
-      right-judged (f .passes) (trapped n w k) (trapped-right (f .count) (f .room) t)
-      ∙ rw (lt-leb (length w) (length (lent .trace)) l)
-  answer-is (isSound {n = n} f s) =
-      right-judged (f .passes) (sound n) (sound-right (f .count) (f .room) s)
-  answer-is (isTrapped {n = n} {k = k} {w = w} f t l) =
-      right-judged (f .passes) (trapped n w k) (trapped-right (f .count) (f .room) t)
-      ∙ rw (le-leb (length w) (length (lent .trace)) l)
-
--- Two verdicts are not the same.
-clash : _≡_ {A = ℕ} 0 1 → ⊥
-clash e = omega arith
-
--- What each answer says, read off it.
-module _ (table : Table) (lent : Lent) where
   pub says-17 : numberOf (searchAnswer table lent .found .outcome) ≡ 17 → tableFits table ≡ false
-  says-17 = go (answered table lent)
-    where
-      go : {a : Searched} → RightAnswer table lent a → numberOf (a .found .outcome) ≡ 17
-          → tableFits table ≡ false
-      go (is17 p) e = p
-      go (is20 p m) e = absurd (omega arith)
-      go (is21 f t l) e = absurd (omega arith)
-      go (isSound f s) e = absurd (omega arith)
-      go (isTrapped f t l) e = absurd (omega arith)
+  says-17 = Laws.says-17 table lent
+
+  -- 20: "If the states don't fit, and only then, the search says so." "20 sets all scratch to 0."
+  pub refused-20 : tableFits table ≡ true → ReachedMany (systemOf table) (suc (roomOf lent))
+      → searchAnswer table lent ≡ record { found = refusedFound 20; lent = cleared lent }
+  refused-20 p m = Laws.answer-is table lent (is20 p m)
 
   pub says-20 : numberOf (searchAnswer table lent .found .outcome) ≡ 20
       → ReachedMany (systemOf table) (suc (roomOf lent))
-  says-20 = go (answered table lent)
-    where
-      go : {a : Searched} → RightAnswer table lent a → numberOf (a .found .outcome) ≡ 20
-          → ReachedMany (systemOf table) (suc (roomOf lent))
-      go (is17 p) e = absurd (omega arith)
-      go (is20 p m) e = m
-      go (is21 f t l) e = absurd (omega arith)
-      go (isSound f s) e = absurd (omega arith)
-      go (isTrapped f t l) e = absurd (omega arith)
+  says-20 = Laws.says-20 table lent
 
-  trap-refused : {k : ℕ} {w : List ℕ} → Trapped (systemOf table) w k
-      → length (lent .trace) < length w
-      → TrapRefused table lent (record { found = refusedFound 21; lent = withEntries table lent })
-  trap-refused {k} {w} t l = record {
-    trace = w;
-    ticks = k;
-    trapped = t;
-    long = l;
-    found = refl;
-    buffer = refl;
-  }
-
-  pub says-21 : numberOf (searchAnswer table lent .found .outcome) ≡ 21
-      → TrapRefused table lent (searchAnswer table lent)
-  says-21 = go (answered table lent)
-    where
-      go : {a : Searched} → RightAnswer table lent a → numberOf (a .found .outcome) ≡ 21
-          → TrapRefused table lent a
-      go (is17 p) e = absurd (omega arith)
-      go (is20 p m) e = absurd (omega arith)
-      go (is21 f t l) e = trap-refused t l
-      go (isSound f s) e = absurd (omega arith)
-      go (isTrapped f t l) e = absurd (omega arith)
-
-  pub says-sound : searchAnswer table lent .found .verdict ≡ SaysSound → Sound (systemOf table)
-  says-sound = go (answered table lent)
-    where
-      go : {a : Searched} → RightAnswer table lent a → a .found .verdict ≡ SaysSound
-          → Sound (systemOf table)
-      go (is17 p) e = absurd (clash (cc))
-      go (is20 p m) e = absurd (clash (cc))
-      go (is21 f t l) e = absurd (clash (cc))
-      go (isSound f s) e = s
-      go (isTrapped f t l) e = absurd (clash (cc))
-
-  -- "A refusal gives number and line: .. else 0."
-  pub line-zero : lineOf (searchAnswer table lent .found .outcome) ≡ 0
-  line-zero = go (answered table lent)
-    where
-      go : {a : Searched} → RightAnswer table lent a → lineOf (a .found .outcome) ≡ 0
-      go (is17 p) = refl
-      go (is20 p m) = refl
-      go (is21 f t l) = refl
-      go (isSound f s) = refl
-      go (isTrapped f t l) = refl
-
-  -- The states of an accepted table fit, or there are more of them than the room.
+  -- The states of an accepted table fit, or they do not.
   pub fit-or-many : tableFits table ≡ true
       → ((n : ℕ) × Fit table lent n) ⊎ ReachedMany (systemOf table) (suc (roomOf lent))
-  fit-or-many q = go (answered table lent)
-    where
-      go : {a : Searched} → RightAnswer table lent a
-          → ((n : ℕ) × Fit table lent n) ⊎ ReachedMany (systemOf table) (suc (roomOf lent))
-      go (is17 p) = absurd (true≢false (sym q ∙ p))
-      go (is20 p m) = inr m
-      go (is21 {n = n} f t l) = inl (n, f)
-      go (isSound {n = n} f s) = inl (n, f)
-      go (isTrapped {n = n} f t l) = inl (n, f)
+  fit-or-many = Laws.fit-or-many table lent
 
-  -- The count is within the product over the rows.
+  -- "The count of configurations .. never exceeds the product over the rows of 1 + Tmax + Lmax +
+  -- Amax."
   pub count-most : searchAnswer table lent .found .count ≤ mostStates (rowsOf table)
-  count-most = go (answered table lent)
-    where
-      fit-most : (n : ℕ) → Fit table lent n → n ≤ mostStates (rowsOf table)
-      fit-most n f = count-bounded (table .signals) (rowsOf table) n (f .count .many)
+  count-most = Laws.count-most table lent
 
-      go : {a : Searched} → RightAnswer table lent a → a .found .count ≤ mostStates (rowsOf table)
-      go (is17 p) = omega arith
-      go (is20 p m) = omega arith
-      go (is21 f t l) = omega arith
-      go (isSound f s) = fit-most _ f
-      go (isTrapped f t l) = fit-most _ f
+-- "A state is the phases of all rows, as one number of 64 bits": each reached state's number is one
+-- of 64 bits, and gives the state back.
+module _ (table : Table) (passes : tableFits table ≡ true) (phases : List Phase)
+    (reached : Reached (systemOf table) phases) where
+  pub number-fits : packed phases < 2 ^ 64
+  number-fits = Numbers.number-fits table passes phases reached
 
--- States that fit.
+  pub number-state : unpacked (rowsOf table) (packed phases) ≡ phases
+  number-state = Numbers.number-state table passes phases reached
+
+-- Demand 3. What trapped and sound mean, in the demand's own words, over any system.
+module _ (X : System) where
+  pub trapped-means : (w : List ℕ) (k : ℕ) → Trapped X w k ↔ Shown X w k
+  trapped-means w k = (Words.trapped-shown X w k, Words.shown-trapped X w k)
+
+  -- An "unbroken trace" with "a number of ticks after which every extension is broken" is one into
+  -- a doomed state.
+  pub dead-means : (w : List ℕ) → ((k : ℕ) × Dead X w k)
+      ↔ (Unbroken X w × Doomed X (run X (X .start) w))
+  dead-means w = (
+    λ d. (d .1 .fine, Words.dead-doomed X w (d .0) (d .1)),
+    λ u. (u .1 .ticks, Words.doomed-dead X w (u .0) (u .1)),
+  )
+
+  pub sound-means : Sound X ↔ CanGoOn X
+  sound-means = (Words.sound-goes-on X, Words.goes-on-sound X)
+
+  pub never-both : (w : List ℕ) (k : ℕ) → Trapped X w k → Sound X → ⊥
+  never-both = trapped-not-sound X
+
+-- "For any accepted table whose states reached by unbroken traces fit the lent scratch", n of them.
 module _ (table : Table) (lent : Lent) (n : ℕ) (fit : Fit table lent n) where
-  pub same-count : (m : ℕ) → Fit table lent m → m ≡ n
-  same-count m f = count-unique (systemOf table) m n (f .count) (fit .count)
-
-  pub not-17 : tableFits table ≡ false → ⊥
-  not-17 p = true≢false (sym (fit .passes) ∙ p)
-
-  pub not-20 : ReachedMany (systemOf table) (suc (roomOf lent)) → ⊥
-  not-20 = fits-or-not (systemOf table) n (roomOf lent) (fit .count) (fit .room)
+  -- Sound over states, and the whole answer: "under sound the first two are 0", and the trace buffer
+  -- "is unchanged". What it says of traces is `sound-exactly`.
+  pub says-sound : searchAnswer table lent .found .verdict ≡ SaysSound → Sound (systemOf table)
+  says-sound = Laws.says-sound table lent
 
   pub sound-answer : Sound (systemOf table)
       → searchAnswer table lent ≡ record { found = soundFound n; lent = withEntries table lent }
-  sound-answer s = answer-is table lent (isSound fit s)
+  sound-answer = Laws.sound-answer table lent n fit
 
-  pub trapped-answer : (w : List ℕ) (k : ℕ) → Trapped (systemOf table) w k
-      → length w ≤ length (lent .trace)
-      → searchAnswer table lent
-      ≡ record { found = trappedFound n w k; lent = traced w (withEntries table lent) }
-  trapped-answer w k t l = answer-is table lent (isTrapped fit t l)
-
-  pub refused-answer : (w : List ℕ) (k : ℕ) → Trapped (systemOf table) w k
-      → length (lent .trace) < length w
-      → searchAnswer table lent ≡ record { found = refusedFound 21; lent = withEntries table lent }
-  refused-answer w k t l = answer-is table lent (is21 fit t l)
-
-  trap-shown : {m k : ℕ} {w : List ℕ} → Fit table lent m → Trapped (systemOf table) w k
-      → length w ≤ length (lent .trace)
-      → TrapShown table lent n
-      (record { found = trappedFound m w k; lent = traced w (withEntries table lent) })
-  trap-shown {m} {k} {w} f t l = record {
-    trace = w;
-    ticks = k;
-    trapped = t;
-    short = l;
-    found = ap (λ (c : ℕ). trappedFound c w k) (same-count m f);
-    buffer = refl;
-  }
+  -- An unbroken trace into a doomed state: the trap is shown, or refused with 21.
+  pub doomed-answer : (w : List ℕ) → Unbroken (systemOf table) w
+      → Doomed (systemOf table) (run (systemOf table) (systemOf table .start) w)
+      → TrapShown table lent n (searchAnswer table lent)
+      ⊎ TrapRefused table lent (searchAnswer table lent)
+  doomed-answer = Laws.doomed-answer table lent n fit
 
   pub says-trapped : searchAnswer table lent .found .verdict ≡ SaysTrapped
       → TrapShown table lent n (searchAnswer table lent)
-  says-trapped = go (answered table lent)
-    where
-      go : {a : Searched} → RightAnswer table lent a → a .found .verdict ≡ SaysTrapped
-          → TrapShown table lent n a
-      go (is17 p) e = absurd (clash (cc))
-      go (is20 p m) e = absurd (clash (cc))
-      go (is21 f t l) e = absurd (clash (cc))
-      go (isSound f s) e = absurd (clash (cc))
-      go (isTrapped f t l) e = trap-shown f t l
+  says-trapped = Laws.says-trapped table lent n fit
 
-  -- A table with a doomed state has one of the two answers.
-  pub doomed-answer : (v : List ℕ) → Unbroken (systemOf table) v
-      → Doomed (systemOf table) (run (systemOf table) (systemOf table .start) v)
-      → TrapShown table lent n (searchAnswer table lent)
-      ⊎ TrapRefused table lent (searchAnswer table lent)
-  doomed-answer v u d = go (answered table lent)
-    where
-      go : {a : Searched} → RightAnswer table lent a
-          → TrapShown table lent n a ⊎ TrapRefused table lent a
-      go (is17 p) = absurd (not-17 p)
-      go (is20 p m) = absurd (not-20 m)
-      go (is21 f t l) = inr (trap-refused table lent t l)
-      go (isSound f s) = absurd (sound-not-doomed (systemOf table) s v u d)
-      go (isTrapped f t l) = inl (trap-shown f t l)
+  pub says-21 : numberOf (searchAnswer table lent .found .outcome) ≡ 21
+      → TrapRefused table lent (searchAnswer table lent)
+  says-21 = Laws.says-21 table lent
 
-  -- Trapped, or refused for its trace, exactly when some unbroken trace is dead.
-  pub trapped-exactly : (
-      (searchAnswer table lent .found .verdict ≡ SaysTrapped)
-      ⊎ (numberOf (searchAnswer table lent .found .outcome) ≡ 21))
-      ↔ ((w : List ℕ) × (k : ℕ) × Dead (systemOf table) w k)
-  trapped-exactly = (
-    there,
-    λ d. back (doomed-answer (d .0) (d .2 .fine)
-        (dead-doomed (systemOf table) (d .0) (d .1) (d .2))),
-  )
-    where
-      there : (searchAnswer table lent .found .verdict ≡ SaysTrapped)
-          ⊎ (numberOf (searchAnswer table lent .found .outcome) ≡ 21)
-          → (w : List ℕ) × (k : ℕ) × Dead (systemOf table) w k
-      there (inl e) =
-          let r = says-trapped e in
-          (r .trace, r .ticks, trapped-shown (systemOf table) _ _ (r .trapped) .such)
-      there (inr e) =
-          let r = says-21 table lent e in
-          (r .trace, r .ticks, trapped-shown (systemOf table) _ _ (r .trapped) .such)
+  -- The scratch under a verdict, and under 21: the columns of the entries; and what each place
+  -- holds.
+  pub scratch-columns : SameScratch (searchAnswer table lent .lent) (withEntries table lent)
+  scratch-columns = Laws.scratch-is table lent n fit
 
-      back : TrapShown table lent n (searchAnswer table lent)
-          ⊎ TrapRefused table lent (searchAnswer table lent)
-          → (searchAnswer table lent .found .verdict ≡ SaysTrapped)
-          ⊎ (numberOf (searchAnswer table lent .found .outcome) ≡ 21)
-      back (inl r) = inl (ap (λ (f : Found). f .verdict) (r .found))
-      back (inr r) = inr (ap (λ (f : Found). numberOf (f .outcome)) (r .found))
+  pub scratch-shown : ScratchShown table n (searchAnswer table lent .lent)
+  scratch-shown = Entries.scratch-shown table lent n fit (searchAnswer table lent .lent) scratch-columns
 
-  -- A trapped table is refused exactly when the trace is longer than its buffer.
-  module _ (w : List ℕ) (k : ℕ) (t : Trapped (systemOf table) w k) where
+  -- "If any entry is doomed the verdict is trapped with the earliest doomed entry's trace."
+  pub earliest-doomed : (w : List ℕ) (k : ℕ) → Trapped (systemOf table) w k
+      → EarliestDoomed n (scratch-shown .trace) (searchAnswer table lent .lent .lost) w k
+  earliest-doomed = Entries.earliest-doomed table n (searchAnswer table lent .lent) scratch-shown
+
+  module _ (w : List ℕ) (k : ℕ) (trapped : Trapped (systemOf table) w k) where
+    -- "The trace buffer holds it from the front, the rest unchanged."
+    pub trapped-answer : length w ≤ length (lent .trace)
+        → searchAnswer table lent
+        ≡ record { found = trappedFound n w k; lent = traced w (withEntries table lent) }
+    trapped-answer = Laws.trapped-answer table lent n fit w k trapped
+
     pub shown-exactly : (searchAnswer table lent .found .verdict ≡ SaysTrapped)
         ↔ (length w ≤ length (lent .trace))
-    shown-exactly = (
-      (λ e. go (says-trapped e)),
-      (λ l. ap (λ (a : Searched). a .found .verdict) (trapped-answer w k t l)),
-    )
-      where
-        go : TrapShown table lent n (searchAnswer table lent) → length w ≤ length (lent .trace)
-        go r = rw (trapped-unique (systemOf table) w (r .trace) k (r .ticks) t (r .trapped) .0)
-            (r .short)
+    shown-exactly = Laws.shown-exactly table lent n fit w k trapped
+
+    -- A buffer as long as the room holds every trace that is shown.
+    pub trace-low : length w < n
+    trace-low = Entries.trace-low table n (searchAnswer table lent .lent) scratch-shown w k trapped
+
+    -- "A trapped table is refused instead exactly when that trace is longer than its buffer."
+    pub refused-21 : length (lent .trace) < length w
+        → searchAnswer table lent
+        ≡ record { found = refusedFound 21; lent = withEntries table lent }
+    refused-21 = Laws.refused-answer table lent n fit w k trapped
 
     pub refused-exactly : (numberOf (searchAnswer table lent .found .outcome) ≡ 21)
         ↔ (length (lent .trace) < length w)
-    refused-exactly = (
-      (λ e. go (says-21 table lent e)),
-      (λ l. ap (λ (a : Searched). numberOf (a .found .outcome)) (refused-answer w k t l)),
-    )
-      where
-        go : TrapRefused table lent (searchAnswer table lent) → length (lent .trace) < length w
-        go r = rw (trapped-unique (systemOf table) w (r .trace) k (r .ticks) t (r .trapped) .0)
-            (r .long)
-
-  -- The scratch then is the entries' columns.
-  pub scratch-is : SameScratch (searchAnswer table lent .lent) (withEntries table lent)
-  scratch-is = go (answered table lent)
-    where
-      same : SameScratch (withEntries table lent) (withEntries table lent)
-      same = record { states = refl; befores = refl; letters = refl; lost = refl }
-
-      go : {a : Searched} → RightAnswer table lent a
-          → SameScratch (a .lent) (withEntries table lent)
-      go (is17 p) = absurd (not-17 p)
-      go (is20 p m) = absurd (not-20 m)
-      go (is21 f t l) = same
-      go (isSound f s) = same
-      go (isTrapped f t l) = record { states = refl; befores = refl; letters = refl; lost = refl }
+    refused-exactly = Laws.refused-exactly table lent n fit w k trapped

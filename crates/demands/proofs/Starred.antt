@@ -32,7 +32,7 @@ use Rattle.scratch.proofs.Same.{phases-tell}
 use Rattle.demands.specs.Cases.{P, Case, Means, trappedWith, right, starred, report, delayed}
 use Rattle.demands.specs.Cases.Case.{after, traps}
 use Rattle.demands.specs.Searching.{withEntries}
-use Rattle.demands.proofs.Searching.{right-judged}
+use Rattle.demands.proofs.SearchLaws.{right-judged}
 
 pub starred-right : every right starred ≡ true
 unfolding every right starred run codeOf stepRow triggerCheck delayCheck actionCheck bitAt setOf

@@ -1,0 +1,105 @@
+-- What is reported of each file, by what is so of its table. Assumes nothing.
+use Prim.Native.Nat.{ℕ, suc, _<_, _≤_}
+use native.Mathlib.Omega.{arith}
+use mathlib.Core.Bool.{true}
+use mathlib.Core.List.{List, [], _∷_, _++_}
+use mathlib.Core.Path.{_≡_, refl}
+use lib.ListN.{length, length-append, length-replicate}
+use lib.Seq.{take-at}
+use borrow.Author.Tests.{lt-ltb}
+use Rattle.letters.specs.Letter.{letters, letterFits}
+use Rattle.letters.specs.Lists.{every}
+use Rattle.table.specs.declared.Table.{Table}
+use Rattle.traces.specs.Trace.{AllBelow}
+use Rattle.traces.specs.Verdict.{ReachedMany, Trapped, Sound}
+use Rattle.text.specs.Bounds.{decimal}
+use Rattle.text.specs.Lines.{ended}
+use Rattle.reader.specs.File.{readAnswer, refusedFile}
+use Rattle.reader.specs.Grammar.{IsFile}
+use Rattle.reader.proofs.Accepted.{file-accepted}
+use Rattle.reader.proofs.Fits.{file-fits}
+use Rattle.search.specs.Answer.{Lent, Searched, roomOf, systemOf, searchAnswer}
+use Rattle.report.specs.Report.{heading, refusedLine, sizeLines, soundLine, trappedLine, tickLines}
+use Rattle.report.specs.declared.Answer.{Answer as Told}
+use Rattle.report.specs.Report.{lostWord, reportLines, traceLength, Shows}
+use Rattle.checker.specs.Answer.{sizeOf, answerOf, checkAnswer, programLent}
+use Rattle.demands.specs.Searching.{Fit, RightAnswer}
+use Rattle.demands.specs.Searching.RightAnswer.{is17, is20, is21, isSound, isTrapped}
+use Rattle.demands.proofs.SearchLaws as S
+
+module _ (bytes : List ℕ) (lent : Lent) where
+  pub refused-report : (number line : ℕ) → readAnswer bytes ≡ refusedFile number line
+      → checkAnswer bytes lent
+      ≡ record { report = ended (heading ∷ refusedLine number line ∷ []); lent = lent }
+  unfolding checkAnswer reportLines
+  refused-report number line e = rw e
+
+  module _ (table : Table) (file : IsFile bytes table) where
+    pub searched-lent : checkAnswer bytes lent .lent ≡ searchAnswer table lent .lent
+    unfolding checkAnswer
+    searched-lent = rw (file-accepted bytes table file)
+
+    pub many-report : ReachedMany (systemOf table) (suc (roomOf lent))
+        → checkAnswer bytes lent .report ≡ ended (heading ∷ refusedLine 20 0 ∷ [])
+    unfolding checkAnswer answerOf reportLines
+    many-report many =
+        let answer = S.answer-is table lent (is20 (file-fits bytes table file) many) in
+        rw (file-accepted bytes table file, answer)
+
+    module _ (n : ℕ) (fit : Fit table lent n) where
+      pub sound-report : Sound (systemOf table)
+          → checkAnswer bytes lent .report
+          ≡ ended (heading ∷ sizeLines (sizeOf (table .count) n) ++ soundLine ∷ [])
+      unfolding checkAnswer answerOf reportLines
+      sound-report sound =
+          rw (file-accepted bytes table file, S.answer-is table lent (isSound fit sound))
+
+      pub trapped-report : (w : List ℕ) (k : ℕ) → Trapped (systemOf table) w k
+          → length w ≤ length (lent .trace)
+          → checkAnswer bytes lent .report
+          ≡ ended (heading ∷ sizeLines (sizeOf (table .count) n) ++ trappedLine
+          ∷ tickLines (table .signals) 1 w ++ (lostWord ++ decimal k) ∷ [])
+      unfolding checkAnswer answerOf reportLines
+      trapped-report w k trapped short =
+          rw (
+            file-accepted bytes table file,
+            S.answer-is table lent (isTrapped fit trapped short),
+            take-at w _ (length w) refl,
+          )
+
+-- The letters of an unbroken trace are letters of the table.
+below-fits : (s : ℕ) (w : List ℕ) → AllBelow (letters s) w → every (letterFits s) w ≡ true
+unfolding every
+below-fits s [] h = refl
+below-fits s (l ∷ w) h = rw (lt-ltb l (letters s) (h .0), below-fits s w (h .1))
+
+-- An answer without a trace shows none.
+no-trace : (s : ℕ) (buffer : List ℕ) (answer : Told) → traceLength answer ≡ 0
+    → Shows s buffer answer
+unfolding every
+no-trace s buffer answer e = record { whole = rw e (omega arith); letters = rw e }
+
+pub searched-shows : (table : Table) (lent : Lent)
+    → Shows (table .signals) (searchAnswer table lent .lent .trace)
+    (answerOf (table .count) (searchAnswer table lent .found))
+unfolding answerOf
+searched-shows table lent = go _ (S.answered table lent)
+  where
+    go : (a : Searched) → RightAnswer table lent a
+        → Shows (table .signals) (a .lent .trace) (answerOf (table .count) (a .found))
+    go a (is17 p) = no-trace _ _ _ refl
+    go a (is20 p m) = no-trace _ _ _ refl
+    go a (is21 f t long) = no-trace _ _ _ refl
+    go a (isSound f s) = no-trace _ _ _ refl
+    go a (isTrapped {w = w} f t short) = record {
+      whole = rw length-append (omega arith);
+      letters = rw (take-at w _ (length w) refl) (below-fits _ w (t .fine .letters));
+    }
+
+-- What the program lends.
+pub program-room : roomOf programLent ≡ 4096
+unfolding roomOf
+program-room = let long = length-replicate {A = ℕ} 4096 0 in omega arith
+
+pub program-long : {m : ℕ} → m < roomOf programLent → m ≤ length (programLent .trace)
+program-long low = rw length-replicate (omega (arith, rw program-room at low))
