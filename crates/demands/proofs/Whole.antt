@@ -15,8 +15,8 @@ use Rattle.conditions.specs.Condition.{nameOf, place}
 use Rattle.conditions.specs.Depth.{deep}
 use Rattle.conditions.specs.Judge.{judge}
 use Rattle.conditions.specs.Reading.{isAt, nameAt, digitAt, reads, conditionOf}
-use Rattle.reader.specs.Header.{headerNumber, isName, signalsNumber, signalsAnswer}
-use Rattle.reader.specs.Row.{fieldOf, fieldsOf, firstFault, rowFields, rowAnswer}
+use Rattle.header.specs.Header.{headerNumber, isName, signalsNumber, signalsAnswer}
+use Rattle.rows.specs.Row.{fieldOf, fieldsOf, firstFault, rowFields, rowAnswer}
 use Rattle.reader.specs.File.{rowsFrom, rowsAnswer, bodyAnswer, fileAnswer, readAnswer}
 use Rattle.reader.proofs.Accepted.{accepted-file}
 use Rattle.reader.proofs.Fits.{file-fits}

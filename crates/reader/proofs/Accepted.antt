@@ -21,12 +21,12 @@ use Rattle.table.specs.declared.Table.{Table}
 use Rattle.text.specs.Split.{count, split}
 use Rattle.conditions.specs.Condition.{nameOf}
 use Rattle.reader.specs.declared.Reading.{Reading}
-use Rattle.reader.specs.declared.header.Signals.{Signals}
-use Rattle.reader.specs.declared.row.RowRead.{RowRead}
+use Rattle.header.specs.declared.Signals.{Signals}
+use Rattle.rows.specs.declared.RowRead.{RowRead}
 use Rattle.text.specs.Lines.{LF, lines, ended, joined}
-use Rattle.reader.specs.Header.{PNP, version1, isDigit16, headerNumber, signalsWord, isName}
-use Rattle.reader.specs.Header.{namesFrom, signalsNumber, signalsAnswer, signalsRefused}
-use Rattle.reader.specs.Row.{rowAnswer}
+use Rattle.header.specs.Header.{PNP, version1, isDigit16, headerNumber, signalsWord, isName}
+use Rattle.header.specs.Header.{namesFrom, signalsNumber, signalsAnswer, signalsRefused}
+use Rattle.rows.specs.Row.{rowAnswer}
 use Rattle.reader.specs.File.{Rows, good, bad, behindRow, rowOf, rowsFrom, rowsReading}
 use Rattle.reader.specs.File.{rowsAnswer, tableFrom, refusedFile, behindSignals, bodyAnswer}
 use Rattle.reader.specs.File.{fileAnswer, readAnswer}

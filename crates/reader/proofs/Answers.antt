@@ -23,16 +23,16 @@ use Rattle.conditions.specs.Judge.{judge}
 use Rattle.conditions.specs.declared.Judged.{Judged}
 use Rattle.conditions.specs.declared.Judged.the-variants.{Letters, Refused as NoCondition}
 use Rattle.conditions.proofs.Judging.{judge-number}
-use Rattle.reader.specs.declared.header.Signals.{Signals}
-use Rattle.reader.specs.declared.row.Field.{Field}
-use Rattle.reader.specs.declared.row.RowRead.{RowRead}
+use Rattle.header.specs.declared.Signals.{Signals}
+use Rattle.rows.specs.declared.Field.{Field}
+use Rattle.rows.specs.declared.RowRead.{RowRead}
 use Rattle.text.specs.Lines.{LF, lines}
-use Rattle.reader.specs.Header.{PNP, version1, isDigit16, headerNumber, signalsWord, isName}
-use Rattle.reader.specs.Header.{signalsNumber, signalsAnswer, signalsRefused, wordsBehind}
-use Rattle.reader.specs.Header.{namesFrom}
-use Rattle.reader.specs.Row.{comma, isBound, fieldOf, fieldsOf, faultOf, firstFault, valueOf}
-use Rattle.reader.specs.Row.{judgedField, ticksField, ordered, boundsFrom, isRule, setsFrom}
-use Rattle.reader.specs.Row.{rowRefused, rowFields, rowAnswer}
+use Rattle.header.specs.Header.{PNP, version1, isDigit16, headerNumber, signalsWord, isName}
+use Rattle.header.specs.Header.{signalsNumber, signalsAnswer, signalsRefused, wordsBehind}
+use Rattle.header.specs.Header.{namesFrom}
+use Rattle.rows.specs.Row.{comma, isBound, fieldOf, fieldsOf, faultOf, firstFault, valueOf}
+use Rattle.rows.specs.Row.{judgedField, ticksField, ordered, boundsFrom, isRule, setsFrom}
+use Rattle.rows.specs.Row.{rowRefused, rowFields, rowAnswer}
 use Rattle.reader.specs.Grammar.{Place, noLine, line1, line2, line3, rowLine, ninthRow}
 use Rattle.reader.specs.Grammar.{Answered, taken, turned}
 use Rattle.reader.specs.File.{Rows, good, bad}

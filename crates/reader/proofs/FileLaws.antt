@@ -20,16 +20,16 @@ use Rattle.text.specs.Lines.{LF, lines}
 use Rattle.text.specs.Split.{count, split, front, behind}
 use Rattle.text.proofs.Joins.{lines-cons}
 use Rattle.text.proofs.Splits.{front-whole, behind-drop}
-use Rattle.reader.proofs.Parts.{rest-whole}
-use Rattle.reader.proofs.SignalLaws.{added-few, length-none}
-use Rattle.reader.specs.declared.header.Signals.{Signals}
-use Rattle.reader.specs.declared.row.RowRead.{RowRead}
-use Rattle.reader.specs.Row.{rowFrom, rowAnswer}
+use Rattle.text.proofs.Parts.{rest-whole}
+use Rattle.header.proofs.SignalLaws.{added-few, length-none}
+use Rattle.header.specs.declared.Signals.{Signals}
+use Rattle.rows.specs.declared.RowRead.{RowRead}
+use Rattle.rows.specs.Row.{rowFrom, rowAnswer}
 use Rattle.reader.specs.File.{noRule, Rows, good, bad, behindRow, rowOf, rowsFrom}
 use Rattle.reader.specs.File.{rowsReading, rowsAnswer, refusedFile, tableFrom}
 use Rattle.reader.specs.Gathering.{gathered}
 use Rattle.reader.specs.File.{behindSignals, bodyAnswer, fileAnswer, readAnswer}
-use Rattle.reader.specs.Header.{headerNumber, signalsAnswer}
+use Rattle.header.specs.Header.{headerNumber, signalsAnswer}
 
 behind-none : (xs : List ℕ) → count LF xs ≡ 0 → behind LF xs ≡ []
 unfolding count behind

@@ -23,7 +23,7 @@ use Rattle.table.specs.declared.Row.{Row}
 use Rattle.table.specs.declared.Table.{Table}
 use Rattle.conditions.specs.Condition.{IsName, nameOf, holdsAt}
 use Rattle.conditions.proofs.Places.{nameOf-fits}
-use Rattle.reader.specs.Header.{isName, noName, namesFrom}
+use Rattle.header.specs.Header.{isName, noName, namesFrom}
 use Rattle.reader.specs.File.{noRule}
 use Rattle.reader.specs.Grammar.{Each, none, and, IsCondition, IsRow, IsFile}
 use Rattle.reader.proofs.Accepted.{names-taken}

@@ -1,11 +1,6 @@
--- `Parts`: parts of a slice. `HeaderLaws`, `SignalLaws`, `RowLaws`, `FileLaws`: what the functions
--- of lines 1 and 2, of a row and of the file cite. `Joins`, `Rules`, `Accepted`: the accepted files
--- are those of the grammar. `Answers`: each file has one answer, at its place. `Fits`: number 17
--- lets each table by. `Witness`: a table that it lets by is some file's, sets apart.
-pub mod Parts
-pub mod HeaderLaws
-pub mod SignalLaws
-pub mod RowLaws
+-- `FileLaws`: what the functions of the file cite. `Rules`, `Accepted`: the accepted files are
+-- those of the grammar. `Answers`: each file has one answer, at its place. `Fits`: number 17 lets
+-- each table by. `Witness`: a table that it lets by is some file's, sets apart.
 pub mod FileLaws
 pub mod Rules
 pub mod Accepted

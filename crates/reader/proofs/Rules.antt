@@ -27,18 +27,18 @@ use Rattle.conditions.specs.Judge.{judge}
 use Rattle.conditions.specs.declared.Judged.{Judged}
 use Rattle.conditions.specs.declared.Judged.the-variants.{Letters, Refused as NoCondition}
 use Rattle.conditions.proofs.Conditions.{judge-means, judge-letters, judge-shallow}
-use Rattle.reader.specs.declared.row.Field.{Field}
-use Rattle.reader.specs.declared.row.Field.the-variants.{Value}
-use Rattle.reader.specs.declared.row.RowRead.{RowRead}
+use Rattle.rows.specs.declared.Field.{Field}
+use Rattle.rows.specs.declared.Field.the-variants.{Value}
+use Rattle.rows.specs.declared.RowRead.{RowRead}
 use Rattle.text.specs.Lines.{LF, joined}
-use Rattle.reader.specs.Row.{comma, ruleWord, isBound, fieldOf, fieldsOf, faultOf, firstFault}
-use Rattle.reader.specs.Row.{judgedField, ticksField}
-use Rattle.reader.specs.Row.{valueOf, setsFrom, boundsFrom, rowFrom, ordered, isRule}
-use Rattle.reader.specs.Row.{rowRefused, rowFields, rowAnswer}
+use Rattle.rows.specs.Row.{comma, ruleWord, isBound, fieldOf, fieldsOf, faultOf, firstFault}
+use Rattle.rows.specs.Row.{judgedField, ticksField}
+use Rattle.rows.specs.Row.{valueOf, setsFrom, boundsFrom, rowFrom, ordered, isRule}
+use Rattle.rows.specs.Row.{rowRefused, rowFields, rowAnswer}
 use Rattle.reader.specs.File.{rowOf}
 use Rattle.reader.specs.Grammar.{Each, none, and, IsCondition, IsRow}
 use Rattle.conditions.proofs.Judging.{judge-some}
-use Rattle.reader.proofs.RowLaws.{rule-commas}
+use Rattle.rows.proofs.RowLaws.{rule-commas}
 use Rattle.text.proofs.Joins.{Free, none as no-piece, and as and-piece, split-joined}
 use Rattle.text.proofs.Joins.{rejoined, joined-split, joined-free, passing-free}
 

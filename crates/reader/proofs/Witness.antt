@@ -32,12 +32,12 @@ use Rattle.text.proofs.Decimals.{decimal-length}
 use Rattle.conditions.specs.Bytes.{'0', opening, closing}
 use Rattle.conditions.specs.Condition.{oneTerm, oneFactor, never, text, nameOf, holdsAt, unknown}
 use Rattle.conditions.proofs.Names.{letterRun-le, letterRun-every, filled, nameOf-filled}
-use Rattle.reader.specs.Header.{PNP, version1, signalsWord, isName, noName, namesFrom}
-use Rattle.reader.specs.Row.{comma, ruleWord}
+use Rattle.header.specs.Header.{PNP, version1, signalsWord, isName, noName, namesFrom}
+use Rattle.rows.specs.Row.{comma, ruleWord}
 use Rattle.reader.specs.File.{tableFrom}
 use Rattle.reader.specs.Grammar.{Each, none, and, IsCondition, IsRow}
 use Rattle.reader.specs.Witness.{Sized, SameBounds, Witnessed}
-use Rattle.reader.proofs.HeaderLaws.{name-is, name-short}
+use Rattle.header.proofs.HeaderLaws.{name-is, name-short}
 
 -- A name's letters, in front of its zeros.
 abbrev wordOf : Name → List ℕ

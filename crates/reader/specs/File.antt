@@ -13,11 +13,11 @@ use Rattle.table.specs.declared.Row.{Row}
 use Rattle.table.specs.declared.Table.{Table}
 use Rattle.text.specs.Split.{split}
 use Rattle.reader.specs.declared.Reading.{Reading}
-use Rattle.reader.specs.declared.header.Signals.{Signals}
-use Rattle.reader.specs.declared.row.RowRead.{RowRead}
+use Rattle.header.specs.declared.Signals.{Signals}
+use Rattle.rows.specs.declared.RowRead.{RowRead}
 use Rattle.text.specs.Lines.{LF, lines}
-use Rattle.reader.specs.Header.{noName, headerNumber, signalsAnswer}
-use Rattle.reader.specs.Row.{rowFrom, rowAnswer}
+use Rattle.header.specs.Header.{noName, headerNumber, signalsAnswer}
+use Rattle.rows.specs.Row.{rowFrom, rowAnswer}
 
 -- "The reader's table is then empty."
 abbrev pub noRule : Row

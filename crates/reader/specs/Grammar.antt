@@ -17,8 +17,8 @@ use Rattle.text.specs.Lines.{ended, joined}
 use Rattle.conditions.specs.Condition.{nameOf, Means}
 use Rattle.conditions.specs.Depth.{Shallow}
 use Rattle.reader.specs.declared.Reading.{Reading}
-use Rattle.reader.specs.Header.{PNP, version1, signalsWord, isName, namesFrom}
-use Rattle.reader.specs.Row.{comma, ruleWord}
+use Rattle.header.specs.Header.{PNP, version1, signalsWord, isName, namesFrom}
+use Rattle.rows.specs.Row.{comma, ruleWord}
 use Rattle.reader.specs.File.{tableFrom, refusedFile}
 
 -- Two lists of one length, each place of one to the same place of the other.

@@ -8,7 +8,7 @@ use Rattle.table.specs.Limits.{mostSignals, mostRows}
 use Rattle.table.specs.Valid.{rowsOf}
 use Rattle.table.specs.declared.Row.{Row}
 use Rattle.table.specs.declared.Table.{Table}
-use Rattle.reader.specs.Header.{noName}
+use Rattle.header.specs.Header.{noName}
 use Rattle.reader.specs.Grammar.{Each, IsFile}
 
 -- A table value of the machine: six names of eight places each, and eight rows. In the logic a

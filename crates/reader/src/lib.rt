@@ -1,10 +1,6 @@
 // The reader: any bytes in, exactly the tables of document 01 out. specs/File.antt says which
 // number and line each file gets, and which table; specs/Grammar.antt describes the accepted files.
-pub mod header;
-pub mod row;
-
-use header::Signals;
-use row::RowRead;
+// Crate `header` reads lines 1 and 2, crate `rows` each further line.
 use table::CONDITIONS;
 use table::MOST_ROWS;
 use table::MOST_SIGNALS;
@@ -17,7 +13,6 @@ use table::Table;
 ghost use mathlib.Core.Path.{_≡_};
 ghost use Prim.Native.Nat.{_+_, min};
 ghost use lib.ListN.{length};
-ghost use Rattle.reader.specs.Row.{rowFrom};
 ghost use Rattle.text.specs.Lines.{lines};
 ghost use Rattle.reader.specs.File.{emptyTable, refusedFile, tableFrom, rowsAnswer};
 ghost use Rattle.reader.specs.Gathering.{gathered};
@@ -40,7 +35,7 @@ pub fn empty() -> Table
     let name = Name {
         letters: [0u8; NAME_LETTERS],
     };
-    let row = row::row_of([0u64; CONDITIONS], [0u8; row::BOUNDS]);
+    let row = rows::row_of([0u64; CONDITIONS], [0u8; rows::BOUNDS]);
     Table {
         signals: 0,
         names: [name; MOST_SIGNALS],
@@ -63,15 +58,15 @@ fn refused(number: u8, line: u8) -> Reading
 // The rows of a table, of their sets and bounds: all places, used or not.
 fn rows_of(
     sets: [[u64; CONDITIONS]; MOST_ROWS],
-    bounds: [[u8; row::BOUNDS]; MOST_ROWS],
+    bounds: [[u8; rows::BOUNDS]; MOST_ROWS],
 ) -> [Row; MOST_ROWS]
     ensures { λ r. ⌜ r ≡ gathered sets bounds ⌝ }
 {
-    let first = row::row_of(sets[0], bounds[0]);
+    let first = rows::row_of(sets[0], bounds[0]);
     let mut rows = [first; MOST_ROWS];
     let mut i: usize = 1;
     while i < MOST_ROWS {
-        rows[i] = row::row_of(sets[i], bounds[i]);
+        rows[i] = rows::row_of(sets[i], bounds[i]);
         i += 1;
     }
     rows
@@ -85,7 +80,7 @@ fn read_rows(rest: &[u8], names: [Name; MOST_SIGNALS], signals: u8) -> Reading
         return refused(16, 3);
     }
     let mut sets = [[0u64; CONDITIONS]; MOST_ROWS];
-    let mut bounds = [[0u8; row::BOUNDS]; MOST_ROWS];
+    let mut bounds = [[0u8; rows::BOUNDS]; MOST_ROWS];
     let mut n: u8 = 0;
     let mut at: usize = 0;
     while at < rest.len() {
@@ -94,7 +89,7 @@ fn read_rows(rest: &[u8], names: [Name; MOST_SIGNALS], signals: u8) -> Reading
             return refused(9, n + 3);
         }
         let end = at + text::find(&rest[at..], LF);
-        let read = row::read_row(&rest[at..end], names, signals);
+        let read = rows::read_row(&rest[at..end], names, signals);
         if read.number != 0 {
             return refused(read.number, n + 3);
         }

@@ -1,5 +1,7 @@
 -- Splits: `split`, `front`, `behind` and `count`, and the turns of the loops over a byte.
 pub mod Splits
+-- Parts: parts of a slice, as the logic has them, and as the definitions do.
+pub mod Parts
 -- Joins: lines and pieces put together again.
 pub mod Joins
 -- Decimals: numbers in base ten.

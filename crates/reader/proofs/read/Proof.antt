@@ -6,9 +6,9 @@ use mathlib.Core.Path.{_≡_, sym, ap, _∙_}
 use lib.ListN.{length, getD}
 use Rattle.text.specs.Split.{front}
 use Rattle.text.specs.Lines.{LF, lines}
-use Rattle.reader.specs.Header.{headerNumber}
+use Rattle.header.specs.Header.{headerNumber}
 use Rattle.reader.specs.File.{bodyAnswer}
-use Rattle.reader.proofs.Parts.{part-front}
+use Rattle.text.proofs.Parts.{part-front}
 use Rattle.reader.proofs.FileLaws.{read-empty, read-long, read-open, file-refused, file-body}
 use Rattle.reader.proofs.FileLaws.{behind-part}
 use borrow.Author.Needs.{needs}

@@ -5,9 +5,9 @@ use mathlib.Core.Path.{_≡_, sym, ap, _∙_}
 use lib.ListN.{length}
 use Rattle.text.specs.Split.{split, front}
 use Rattle.text.specs.Lines.{LF, lines}
-use Rattle.reader.specs.Header.{signalsAnswer}
+use Rattle.header.specs.Header.{signalsAnswer}
 use Rattle.reader.specs.File.{rowsAnswer}
-use Rattle.reader.proofs.Parts.{part-front}
+use Rattle.text.proofs.Parts.{part-front}
 use Rattle.reader.proofs.FileLaws.{body-none, body-refused, body-rows, behind-part}
 use borrow.Author.Needs.{needs}
 use Rattle.reader.proofs.read_body.Statement.{statement}

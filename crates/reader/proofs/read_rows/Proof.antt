@@ -3,7 +3,7 @@
 use Rattle.reader.specs.File.{refusedFile}
 use lib.ListN.{length-map}
 use Rattle.letters.specs.Letter.{width}
-use Rattle.reader.specs.Row.{rowAnswer}
+use Rattle.rows.specs.Row.{rowAnswer}
 use Rattle.reader.specs.File.{rowOf}
 use Rattle.table.specs.declared.Outcome.the-variants.{Accepted}
 use Rattle.reader.proofs.FileLaws.{rows-none, rows-bad, rows-good}
@@ -16,8 +16,8 @@ use Rattle.table.specs.declared.Row.{Row}
 use Rattle.text.specs.Split.{front}
 use Rattle.text.proofs.Splits.{front-length}
 use Rattle.text.specs.Lines.{LF}
-use Rattle.reader.specs.declared.row.RowRead.{RowRead}
-use Rattle.reader.proofs.Parts.{rest-whole, part-front}
+use Rattle.rows.specs.declared.RowRead.{RowRead}
+use Rattle.text.proofs.Parts.{rest-whole, part-front}
 use Rattle.reader.proofs.FileLaws.{Gathering, gathering-starts, gathering-step}
 use Rattle.reader.proofs.FileLaws.{gathering-bad, gathering-ninth}
 use Rattle.reader.proofs.FileLaws.{gathering-ends, gathered-all}

@@ -1,0 +1,2 @@
+-- `RowLaws`: what the functions of a row's line cite.
+pub mod RowLaws

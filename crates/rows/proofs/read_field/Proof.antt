@@ -1,0 +1,39 @@
+-- `rows::read_field` meets its contract: the part of the rest that `find` bounds is its front, and
+-- the field is read by its kind. Assumes nothing.
+use borrow.Author.Needs.{needs}
+use mathlib.Core.Path.{_≡_, sym, ap, _∙_}
+use lib.ListN.{length, take}
+use Rattle.text.specs.Split.{front}
+use Rattle.rows.specs.Row.{fieldOf}
+use Rattle.text.proofs.Parts.{part-front}
+use Rattle.rows.proofs.read_field.Statement.{statement}
+use Rattle.rows.proofs.read_field.Tie as tie
+
+-- The part up to the next comma.
+part : (c : tie.After-is-bound) → let rest = c .before .before .before .args .rest .now in
+    take (c .before .find .result) rest ≡ front 44 rest
+part c = part-front 44 _ (c .before .find .ensures)
+
+part-length : (c : tie.After-is-bound) → let end = c .before .find .result in
+    end ≡ length (take end (c .before .before .before .args .rest .now))
+part-length c = c .before .find .ensures ∙ ap length (sym (part c))
+
+returns : tie.Need-returns
+unfolding fieldOf
+returns c =
+    let q = c .before .before .before in
+    rw (← q .is-bound .ensures, c .before .before .if1 .taken, ← part q) (c .bound-field .ensures)
+
+returns-2 : tie.Need-returns-2
+unfolding fieldOf
+returns-2 c =
+    let q = c .before .before .before in
+    rw (← q .is-bound .ensures, c .before .before .if1 .left, ← part q)
+    (c .condition-field .ensures)
+
+pub read-field-spec : {M : Type 1} → statement M
+read-field-spec =
+    tie.close (tie.spec
+    (λ c κs. search needs) (λ c κs. search needs) (λ c. part-length (c .before .before))
+    (λ c κs. search needs) (λ c. part-length (c .before .before)) (λ c κs. search needs) returns
+    returns-2)
