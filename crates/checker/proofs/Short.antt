@@ -11,8 +11,8 @@ use Rattle.table.specs.Valid.{tableFits}
 use Rattle.table.specs.declared.Outcome.the-variants.{Accepted}
 use Rattle.table.specs.declared.Table.{Table}
 use Rattle.table.proofs.Laws.{tableFits-count, tableFits-signals}
-use Rattle.traces.specs.Answer.{Answer}
-use Rattle.traces.specs.Answer.Answer.{tooMany, sound, trapped}
+use Rattle.traces.specs.inner.Answer.{Answer}
+use Rattle.traces.specs.inner.Answer.Answer.{tooMany, sound, trapped}
 use Rattle.traces.proofs.Answer.{Within, answer-within}
 use Rattle.reader.specs.File.{readAnswer}
 use Rattle.reader.specs.Grammar.{Place, noLine, line1, line2, line3, rowLine, ninthRow}
@@ -20,9 +20,10 @@ use Rattle.reader.specs.Grammar.{Answered, taken, turned}
 use Rattle.reader.proofs.Accepted.{accepted-file}
 use Rattle.reader.proofs.Answers.{read-answered}
 use Rattle.reader.proofs.Fits.{file-fits}
-use Rattle.scratch.specs.Same.{samePhases}
+use Rattle.scratch.specs.inner.Same.{samePhases}
 use Rattle.search.specs.Answer.{Lent, roomOf, systemOf, refusedFound, trappedFound, traced}
-use Rattle.search.specs.Answer.{Searched, judged, searchAnswer}
+use Rattle.search.specs.Answer.{Searched}
+use Rattle.search.specs.inner.Computed.{judged, searchAnswer}
 use Rattle.report.proofs.Lengths.{Few, report-short}
 use Rattle.checker.specs.Answer.{answerOf, behindReading, checkAnswer, programLent}
 

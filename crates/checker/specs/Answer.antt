@@ -9,7 +9,8 @@ use Rattle.reader.specs.File.{readAnswer}
 use Rattle.search.specs.declared.Found.{Found}
 use Rattle.search.specs.declared.Verdict.{Verdict}
 use Rattle.search.specs.declared.Verdict.the-variants.{Absent, Sound, Trapped}
-use Rattle.search.specs.Answer.{Lent, lentLists, searchAnswer}
+use Rattle.search.specs.Answer.{Lent, lentLists}
+use Rattle.search.specs.inner.Computed.{searchAnswer}
 use Rattle.report.specs.declared.Answer.{Answer}
 use Rattle.report.specs.declared.Answer.the-variants.{Refused as SaysRefused, Sound as SaysSound}
 use Rattle.report.specs.declared.Answer.the-variants.{Trapped as SaysTrapped}

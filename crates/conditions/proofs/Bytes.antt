@@ -8,7 +8,7 @@ use mathlib.Core.Path.{_≡_, refl, sym, ap, _∙_}
 use lib.Dec.{eqb, leb·suc-suc}
 use lib.ListN.{length, drop, length-drop}
 use lib.Seq.{drop-drop, drop-append-seam}
-use Rattle.conditions.specs.Reading.{isAt}
+use Rattle.conditions.specs.inner.Reading.{isAt}
 
 abbrev pub begins : List ℕ → ℕ → Bool
 begins [] b = false

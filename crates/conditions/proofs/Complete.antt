@@ -20,7 +20,7 @@ use Rattle.conditions.specs.Condition.{IsName, Kind, choice, term, facto
 use Rattle.conditions.specs.Condition.{nameOf, place, holdsAt, unknown}
 use Rattle.conditions.specs.Condition.Cond.{oneTerm, or, oneFactor, and, negated, named}
 use Rattle.conditions.specs.Condition.Cond.{never, always, grouped}
-use Rattle.conditions.specs.Reading.{isAt, signal, nameAt, digitAt, rank, reads}
+use Rattle.conditions.specs.inner.Reading.{isAt, signal, nameAt, digitAt, rank, reads}
 use Rattle.conditions.specs.declared.Read.{Read}
 use Rattle.conditions.specs.declared.Read.the-variants.{Set}
 use Rattle.conditions.proofs.Bytes.{begins, isAt-drop, drop-past, drop-next}

@@ -16,7 +16,7 @@ use Rattle.table.specs.declared.Name.{Name}
 use Rattle.conditions.specs.Condition.{choice, Cond, text, holdsAt, unknown, Means}
 use Rattle.conditions.specs.Depth.{Shallow, deep}
 use Rattle.conditions.specs.Judge.{verdictOf, judge}
-use Rattle.conditions.specs.Reading.{reads, wholly, conditionOf}
+use Rattle.conditions.specs.inner.Reading.{reads, wholly, conditionOf}
 use Rattle.conditions.specs.declared.Read.{Read}
 use Rattle.conditions.specs.declared.Read.the-variants.{Set, Nothing}
 use Rattle.conditions.specs.declared.Judged.the-variants.{Letters, Refused}

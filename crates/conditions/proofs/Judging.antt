@@ -10,7 +10,7 @@ use Rattle.table.specs.declared.Name.{Name}
 use Rattle.conditions.specs.Condition.{holdsAt, Means}
 use Rattle.conditions.specs.Depth.{Shallow, deep}
 use Rattle.conditions.specs.Judge.{Right, is11, is12, is13, good, verdictOf, judge}
-use Rattle.conditions.specs.Reading.{conditionOf}
+use Rattle.conditions.specs.inner.Reading.{conditionOf}
 use Rattle.conditions.specs.declared.Read.{Read}
 use Rattle.conditions.specs.declared.Read.the-variants.{Set, Nothing}
 use Rattle.conditions.specs.declared.Judged.{Judged}

@@ -16,7 +16,7 @@ use Rattle.letters.proofs.Lists.{and-left, and-right}
 use Rattle.table.specs.Name.{isLetter, letterRun}
 use Rattle.table.specs.declared.Name.{Name}
 use Rattle.conditions.specs.Condition.{nameOf, place}
-use Rattle.conditions.specs.Reading.{nameAt}
+use Rattle.conditions.specs.inner.Reading.{nameAt}
 use Rattle.conditions.specs.declared.Read.the-variants.{Set, Nothing}
 
 -- The letters in front.

@@ -10,8 +10,8 @@ use lib.ListN.{length}
 use Rattle.table.specs.declared.Name.{Name}
 use Rattle.conditions.specs.Bytes.{'|', '&', '!', opening}
 use Rattle.conditions.specs.Condition.{Kind, choice, term, factor}
-use Rattle.conditions.specs.Reading.{isAt, joined, others, closed, followed, digitAt, rank}
-use Rattle.conditions.specs.Reading.{reads, Meant, wholly, conditionOf}
+use Rattle.conditions.specs.inner.Reading.{isAt, joined, others, closed, followed, digitAt, rank}
+use Rattle.conditions.specs.inner.Reading.{reads, Meant, wholly, conditionOf}
 use Rattle.conditions.specs.declared.Read.{Read}
 use Rattle.conditions.specs.declared.Read.the-variants.{Set, Nothing}
 use Rattle.conditions.proofs.Bytes.{isAt-lt}

@@ -5,7 +5,7 @@ use mathlib.Core.List.{List}
 use Rattle.table.specs.declared.Name.{Name}
 use Rattle.conditions.specs.Condition.{Means}
 use Rattle.conditions.specs.Depth.{Shallow, TooDeep, deep}
-use Rattle.conditions.specs.Reading.{conditionOf}
+use Rattle.conditions.specs.inner.Reading.{conditionOf}
 use Rattle.conditions.specs.declared.Read.{Read}
 use Rattle.conditions.specs.declared.Read.the-variants.{Set, Nothing}
 use Rattle.conditions.specs.declared.Judged.{Judged}

@@ -1,8 +1,7 @@
--- Conditions. Read `Bytes`, `Condition` (the grammar), `Depth`, `Judge`. `Reading` follows the
--- code, and a reader need not believe it: `Judge` says what is right, and the promises that the
--- code's answer is.
+-- Conditions. `Bytes`, `Condition` (the grammar), `Depth`, `Judge`: what is right. That the code's
+-- answer is, is promised.
 pub mod Bytes
 pub mod Condition
 pub mod Depth
-pub mod Reading
 pub mod Judge
+pub mod inner

@@ -1,5 +1,5 @@
 // Reading a condition. specs/Condition.antt is the grammar and its meaning, specs/Judge.antt says
-// which of 11, 12 and 13 other bytes get; specs/Reading.antt follows this code.
+// which of 11, 12 and 13 other bytes get; specs/inner/Reading.antt follows this code.
 use table::MOST_SIGNALS;
 use table::NAME_LETTERS;
 use table::Name;
@@ -12,8 +12,8 @@ ghost use Rattle.table.specs.Name.{letterRun};
 ghost use Rattle.conditions.specs.Condition.{nameOf, place, Kind};
 ghost use Rattle.conditions.specs.Depth.{one, deep};
 ghost use Rattle.conditions.specs.Judge.{verdictOf, judge};
-ghost use Rattle.conditions.specs.Reading.{isAt, nameAt, digitAt, joined, others, closed};
-ghost use Rattle.conditions.specs.Reading.{Meant, wholly, conditionOf};
+ghost use Rattle.conditions.specs.inner.Reading.{isAt, nameAt, digitAt, joined, others, closed};
+ghost use Rattle.conditions.specs.inner.Reading.{Meant, wholly, conditionOf};
 
 // What was read: the set of letters, whether a name is unknown, and the place past it; or nothing.
 pub enum Read {

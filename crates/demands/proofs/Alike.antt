@@ -11,7 +11,8 @@ use Rattle.table.specs.Valid.{tableFits, rowsOf}
 use Rattle.table.specs.declared.Table.{Table}
 use Rattle.traces.specs.Verdict.{Trapped}
 use Rattle.search.specs.Answer.{Lent, Searched, roomOf, systemOf, cleared, soundFound}
-use Rattle.search.specs.Answer.{trappedFound, searchAnswer}
+use Rattle.search.specs.Answer.{trappedFound}
+use Rattle.search.specs.inner.Computed.{searchAnswer}
 use Rattle.demands.specs.Searching.{Fit, withEntries, RightAnswer, SameLengths, SameScratch}
 use Rattle.demands.specs.Searching.RightAnswer.{is17, is20, is21, isSound, isTrapped}
 use Rattle.demands.proofs.SearchLaws.{answered, answer-is, not-17, not-20, same-count}

@@ -25,7 +25,8 @@ use Rattle.text.specs.Lines.{ended}
 use Rattle.reader.specs.File.{refusedFile, readAnswer}
 use Rattle.reader.specs.Grammar.{IsFile, accepted}
 use Rattle.search.specs.Answer.{Lent, Searched, roomOf, systemOf, traced}
-use Rattle.search.specs.Answer.{soundFound, trappedFound, searchAnswer}
+use Rattle.search.specs.Answer.{soundFound, trappedFound}
+use Rattle.search.specs.inner.Computed.{searchAnswer}
 use Rattle.search.specs.declared.Verdict.the-variants.{Sound as SaysSound}
 use Rattle.search.specs.declared.Verdict.the-variants.{Trapped as SaysTrapped}
 use Rattle.demands.specs.Watching.{recordAfter, Accepted}

@@ -13,11 +13,12 @@ use Rattle.traces.specs.Trace.{run, Reached}
 use Rattle.traces.specs.Order.{Earlier, NotAfter}
 use Rattle.traces.specs.Doomed.{Doomed}
 use Rattle.traces.specs.Verdict.{Trapped}
-use Rattle.traces.specs.Entries.{Entries, traceOf, Finished}
-use Rattle.traces.specs.Explore.{Entry, listed, entryAt}
-use Rattle.traces.specs.Least.{lostWithin}
-use Rattle.traces.specs.Lists.{ZeroFrom, column}
-use Rattle.traces.specs.Numbers.{Told}
+use Rattle.traces.specs.inner.Entries.{Entries, traceOf, Finished}
+use Rattle.traces.specs.inner.Explore.{Entry, listed, entryAt}
+use Rattle.traces.specs.inner.Least.{lostWithin}
+use Rattle.traces.specs.inner.Lists.{column}
+use Rattle.letters.specs.Lists.{ZeroFrom}
+use Rattle.traces.specs.inner.Numbers.{Told}
 use Rattle.traces.proofs.Numbers.{strong-induction}
 use Rattle.traces.proofs.Order.{earlier-irrefl, earlier-trans, notAfter-antisym}
 use Rattle.traces.proofs.Doomed.{lost-doomed, lost-unique, lives-not-doomed}
@@ -28,11 +29,12 @@ use Rattle.traces.proofs.Explored.{entry-leads, entry-step, entry-order, entry-
 use Rattle.traces.proofs.Explored.{reached-entry, entries-closed}
 use Rattle.traces.proofs.Told.{told-computed}
 use Rattle.traces.proofs.Scratch.{column-length, column-at, column-beyond}
-use Rattle.scratch.specs.Same.{samePhases}
+use Rattle.scratch.specs.inner.Same.{samePhases}
 use Rattle.successors.specs.State.{packed}
 use Rattle.scratch.specs.Room.{zeros}
-use Rattle.search.specs.Answer.{Lent, Searched, roomOf, systemOf, entriesWithin}
-use Rattle.search.specs.Answer.{searchAnswer}
+use Rattle.search.specs.Answer.{Lent, Searched, roomOf, systemOf}
+use Rattle.search.specs.inner.Computed.{entriesWithin}
+use Rattle.search.specs.inner.Computed.{searchAnswer}
 use Rattle.demands.specs.Searching.{Fit, withEntries, SameScratch, EntryShown, ScratchShown}
 use Rattle.demands.specs.Searching.{LostOrZero, EarliestDoomed, SameLengths, RightAnswer}
 use Rattle.demands.specs.Searching.RightAnswer.{is17, is20, is21, isSound, isTrapped}

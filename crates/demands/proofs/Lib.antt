@@ -1,6 +1,6 @@
 -- Read `Demands` and the specs: nothing else has to be believed. What is promised besides stands by
 -- subject: `Reading`, `Watching`, `Searching`, `Reporting`, `Cases`. Below them are proofs:
--- `WatchLaws`; `Words`, `SearchLaws`, `Entries`, `Alike` and `StateNumbers` of the search;
+-- `WatchLaws`; `Words`, `SearchLaws`, `Entries`, `Alike`, `StateNumbers` and `ScratchLaws` of the search;
 -- `ReportLaws`; `Starred` and `Whole` of the worked cases.
 pub mod Demands
 pub mod Reading
@@ -14,6 +14,7 @@ pub mod SearchLaws
 pub mod Entries
 pub mod Alike
 pub mod StateNumbers
+pub mod ScratchLaws
 pub mod ReportLaws
 pub mod Starred
 pub mod Whole

@@ -18,7 +18,8 @@ use Rattle.reader.specs.File.{readAnswer, refusedFile}
 use Rattle.reader.specs.Grammar.{IsFile}
 use Rattle.reader.proofs.Accepted.{file-accepted}
 use Rattle.reader.proofs.Fits.{file-fits}
-use Rattle.search.specs.Answer.{Lent, Searched, roomOf, systemOf, searchAnswer}
+use Rattle.search.specs.Answer.{Lent, Searched, roomOf, systemOf}
+use Rattle.search.specs.inner.Computed.{searchAnswer}
 use Rattle.report.specs.Report.{heading, refusedLine, sizeLines, soundLine, trappedLine, tickLines}
 use Rattle.report.specs.declared.Answer.{Answer as Told}
 use Rattle.report.specs.Report.{lostWord, reportLines, traceLength, Shows}

@@ -11,7 +11,7 @@ use Rattle.text.specs.Lines.{ended}
 use Rattle.reader.specs.File.{refusedFile, readAnswer}
 use Rattle.reader.specs.Grammar.{IsFile}
 use Rattle.search.specs.Answer.{Lent, roomOf, systemOf}
-use Rattle.search.specs.Answer.{searchAnswer}
+use Rattle.search.specs.inner.Computed.{searchAnswer}
 use Rattle.demands.specs.Searching.{Fit}
 use Rattle.report.specs.declared.Answer.{Answer as Told}
 use Rattle.report.specs.Report.{heading, refusedLine, sizeLines, soundLine, trappedLine, tickLines}

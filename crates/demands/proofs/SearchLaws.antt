@@ -17,18 +17,19 @@ use Rattle.traces.specs.System.{Lawful}
 use Rattle.traces.specs.Trace.{run, Unbroken}
 use Rattle.traces.specs.Doomed.{Doomed}
 use Rattle.traces.specs.Verdict.{ReachedMany, Trapped, Sound}
-use Rattle.traces.specs.Explore.{Tells}
-use Rattle.traces.specs.Answer.{Answer, Right, answer}
-use Rattle.traces.specs.Answer.Answer.{tooMany, sound, trapped}
-use Rattle.traces.specs.Answer.Right.{tooMany-right, sound-right, trapped-right}
+use Rattle.traces.specs.inner.Explore.{Tells}
+use Rattle.traces.specs.inner.Answer.{Answer, Right, answer}
+use Rattle.traces.specs.inner.Answer.Answer.{tooMany, sound, trapped}
+use Rattle.traces.specs.inner.Answer.Right.{tooMany-right, sound-right, trapped-right}
 use Rattle.traces.proofs.Count.{count-unique, fits-or-not}
 use Rattle.traces.proofs.Verdict.{trapped-unique, sound-not-doomed}
 use Rattle.traces.proofs.Answer.{answer-right, answer-only}
 use Rattle.step.proofs.Systems.{table-lawful}
-use Rattle.scratch.specs.Same.{samePhases}
+use Rattle.scratch.specs.inner.Same.{samePhases}
 use Rattle.search.specs.Bound.{mostStates}
 use Rattle.search.specs.Answer.{Lent, Searched, roomOf, systemOf, traced, refusedFound}
-use Rattle.search.specs.Answer.{soundFound, trappedFound, judged, searchAnswer}
+use Rattle.search.specs.Answer.{soundFound, trappedFound}
+use Rattle.search.specs.inner.Computed.{judged, searchAnswer}
 use Rattle.search.specs.declared.Found.{Found}
 use Rattle.search.specs.declared.Verdict.the-variants.{Sound as SaysSound}
 use Rattle.search.specs.declared.Verdict.the-variants.{Trapped as SaysTrapped}

@@ -15,7 +15,8 @@ use Rattle.traces.proofs.Verdict.{trapped-not-sound}
 use Rattle.step.specs.declared.Phase.{Phase}
 use Rattle.table.specs.Refusal.{numberOf, lineOf}
 use Rattle.search.specs.Answer.{Lent, roomOf, systemOf, cleared, traced, refusedFound}
-use Rattle.search.specs.Answer.{soundFound, trappedFound, searchAnswer}
+use Rattle.search.specs.Answer.{soundFound, trappedFound}
+use Rattle.search.specs.inner.Computed.{searchAnswer}
 use Rattle.search.specs.Bound.{mostStates}
 use Rattle.successors.specs.State.{packed, unpacked}
 use Rattle.search.specs.declared.Verdict.the-variants.{Sound as SaysSound}
@@ -28,6 +29,7 @@ use Rattle.demands.proofs.Words as Words
 use Rattle.demands.proofs.SearchLaws as Laws
 use Rattle.demands.proofs.Entries as Entries
 use Rattle.demands.proofs.StateNumbers as Numbers
+use Rattle.demands.proofs.ScratchLaws as ScratchLaws
 
 module _ (table : Table) (lent : Lent) where
   -- "A refusal gives number and line: .. else 0." Every list keeps its length.
@@ -93,6 +95,11 @@ module _ (X : System) where
 
   pub never-both : (w : List ℕ) (k : ℕ) → Trapped X w k → Sound X → ⊥
   never-both = trapped-not-sound X
+
+-- What `ScratchShown` says of lists of given lengths fixes every element of them.
+pub scratch-only : (table : Table) (n : ℕ) (one other : Lent) → SameLengths one other
+    → ScratchShown table n one → ScratchShown table n other → SameScratch one other
+scratch-only table n one other lengths x y = ScratchLaws.scratch-same table n x y lengths
 
 -- "For any accepted table whose states reached by unbroken traces fit the lent scratch", n of them.
 module _ (table : Table) (lent : Lent) (n : ℕ) (fit : Fit table lent n) where

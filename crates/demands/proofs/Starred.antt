@@ -15,19 +15,20 @@ use Rattle.table.specs.declared.Row.{Row}
 use Rattle.table.specs.declared.Table.{Table}
 use Rattle.traces.specs.System.{System}
 use Rattle.traces.specs.Trace.{run}
-use Rattle.traces.specs.Entries.{back, traceOf}
-use Rattle.traces.specs.Explore.{has, enter, visit, explore}
-use Rattle.traces.specs.Least.{passBelow, breaksIn, lostWithin}
-use Rattle.traces.specs.Answer.{Answer, Right, verdictFrom, answer}
-use Rattle.traces.specs.Answer.Answer.{tooMany, sound, trapped}
-use Rattle.traces.specs.Answer.Right.{trapped-right}
+use Rattle.traces.specs.inner.Entries.{back, traceOf}
+use Rattle.traces.specs.inner.Explore.{has, enter, visit, explore}
+use Rattle.traces.specs.inner.Least.{passBelow, breaksIn, lostWithin}
+use Rattle.traces.specs.inner.Answer.{Answer, Right, verdictFrom, answer}
+use Rattle.traces.specs.inner.Answer.Answer.{tooMany, sound, trapped}
+use Rattle.traces.specs.inner.Answer.Right.{trapped-right}
 use Rattle.traces.proofs.Answer.{answer-right}
 use Rattle.step.specs.Phase.{codeOf, isBroken}
 use Rattle.step.specs.Step.{actionCheck, delayCheck, triggerCheck, stepRow}
 use Rattle.step.specs.Tick.{tick, tableSystem}
 use Rattle.step.proofs.Systems.{table-lawful}
-use Rattle.scratch.specs.Same.{kindOf, elapsed, samePhase, samePhases}
-use Rattle.search.specs.Answer.{Lent, roomOf, traced, trappedFound, judged, searchAnswer}
+use Rattle.scratch.specs.inner.Same.{kindOf, elapsed, samePhase, samePhases}
+use Rattle.search.specs.Answer.{Lent, roomOf, traced, trappedFound}
+use Rattle.search.specs.inner.Computed.{judged, searchAnswer}
 use Rattle.scratch.proofs.Same.{phases-tell}
 use Rattle.demands.specs.Cases.{P, Case, Means, trappedWith, right, starred, report, delayed}
 use Rattle.demands.specs.Cases.Case.{after, traps}

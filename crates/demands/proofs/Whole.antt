@@ -14,7 +14,7 @@ use Rattle.text.specs.Split.{count, split}
 use Rattle.conditions.specs.Condition.{nameOf, place}
 use Rattle.conditions.specs.Depth.{deep}
 use Rattle.conditions.specs.Judge.{judge}
-use Rattle.conditions.specs.Reading.{isAt, nameAt, digitAt, reads, conditionOf}
+use Rattle.conditions.specs.inner.Reading.{isAt, nameAt, digitAt, reads, conditionOf}
 use Rattle.header.specs.Header.{headerNumber, isName, signalsNumber, signalsAnswer}
 use Rattle.rows.specs.Row.{fieldOf, fieldsOf, firstFault, rowFields, rowAnswer}
 use Rattle.reader.specs.File.{rowsFrom, rowsAnswer, bodyAnswer, fileAnswer, readAnswer}

@@ -12,13 +12,14 @@ use Rattle.table.specs.Valid.{tableFits, rowsOf}
 use Rattle.table.specs.declared.Row.{Row}
 use Rattle.table.specs.declared.Table.{Table}
 use Rattle.traces.specs.Trace.{run}
-use Rattle.traces.specs.Answer.{Answer, answer}
-use Rattle.traces.specs.Answer.Answer.{tooMany, sound, trapped}
+use Rattle.traces.specs.inner.Answer.{Answer, answer}
+use Rattle.traces.specs.inner.Answer.Answer.{tooMany, sound, trapped}
 use Rattle.step.specs.declared.Phase.the-variants.{Waiting}
 use Rattle.step.specs.Phase.{codeOf}
 use Rattle.step.specs.Tick.{rowSystem, tableSystem}
-use Rattle.scratch.specs.Same.{samePhases}
-use Rattle.search.specs.Answer.{Lent, roomOf, traced, trappedFound, searchAnswer}
+use Rattle.scratch.specs.inner.Same.{samePhases}
+use Rattle.search.specs.Answer.{Lent, roomOf, traced, trappedFound}
+use Rattle.search.specs.inner.Computed.{searchAnswer}
 use Rattle.demands.specs.Searching.{withEntries}
 
 -- The conditions of the rows, as sets of the four letters.

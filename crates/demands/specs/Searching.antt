@@ -12,11 +12,12 @@ use Rattle.traces.specs.Trace.{AllBelow, run, Unbroken, Reached}
 use Rattle.traces.specs.Order.{Earlier, NotAfter}
 use Rattle.traces.specs.Doomed.{Doomed, Lost}
 use Rattle.traces.specs.Verdict.{ReachedMany, ReachedCount, Trapped, Sound}
-use Rattle.traces.specs.Lists.{ZeroFrom}
+use Rattle.letters.specs.Lists.{ZeroFrom}
 use Rattle.step.specs.declared.Phase.{Phase}
 use Rattle.step.specs.Tick.{startPhases}
 use Rattle.successors.specs.State.{packed}
-use Rattle.search.specs.Answer.{Lent, Searched, roomOf, systemOf, entriesWithin, filled, cleared}
+use Rattle.search.specs.Answer.{Lent, Searched, roomOf, systemOf, cleared}
+use Rattle.search.specs.inner.Computed.{entriesWithin, filled}
 use Rattle.search.specs.Answer.{atFront, traced, refusedFound, soundFound, trappedFound}
 
 -- Demand 3 in its own words, over traces. "Some unbroken trace has a number of ticks after which

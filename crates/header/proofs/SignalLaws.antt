@@ -22,7 +22,7 @@ use Rattle.text.proofs.Splits.{front-whole, split-front, split-cons, front-behi
 use Rattle.conditions.specs.Condition.{nameOf}
 use Rattle.header.specs.Header.{signalsWord, isName, noName, namesFrom, signalsNumber}
 use Rattle.header.specs.Header.{signalsRefused, signalsAnswer}
-use Rattle.header.specs.Gathering.{nameAdded}
+use Rattle.header.specs.inner.Gathering.{nameAdded}
 
 -- The words behind a word that has ended: nothing is left, or a separator and words.
 unfoldable pub wordsAfter : ℕ → List ℕ → List (List ℕ)

@@ -8,7 +8,7 @@ ghost use lib.ListN.{length, take, drop};
 ghost use Rattle.conditions.specs.Condition.{nameOf};
 ghost use Rattle.text.specs.Split.{split};
 ghost use Rattle.header.specs.Header.{isDigit16, headerNumber, isName};
-ghost use Rattle.header.specs.Gathering.{nameAdded};
+ghost use Rattle.header.specs.inner.Gathering.{nameAdded};
 ghost use Rattle.header.specs.Header.{signalsRefused, signalsAnswer};
 
 // Line 2: its number, or 0; and the names, of which the first `count` are used. Under a number all

@@ -1,8 +1,10 @@
--- Tests over lists.
-use Prim.Native.Nat.{ℕ}
+-- Tests over lists, and what is said of all places from one on.
+use Prim.Native.Nat.{ℕ, _≤_, _<_}
 use mathlib.Core.Bool.{Bool, true, false, _&&_, _||_}
 use mathlib.Core.List.{List, [], _∷_}
+use mathlib.Core.Path.{_≡_}
 use lib.Dec.{eqb}
+use lib.ListN.{length, getD}
 
 module _ {A : Type 0} (test : A → Bool) where
   -- Every element passes the test.
@@ -21,3 +23,7 @@ sameBytes [] [] = true
 sameBytes [] (y ∷ ys) = false
 sameBytes (x ∷ xs) [] = false
 sameBytes (x ∷ xs) (y ∷ ys) = eqb x y && sameBytes xs ys
+
+-- Every place from n on holds none.
+abbrev pub ZeroFrom : {A : Type 0} → A → ℕ → List A → Type 0
+ZeroFrom none n l = (e : ℕ) → n ≤ e → e < length l → getD l e none ≡ none

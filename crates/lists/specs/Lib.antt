@@ -1,2 +1,2 @@
--- Lists of numbers.
-pub mod Numbers
+-- Lists of numbers. Nothing here has to be believed.
+pub mod inner

@@ -27,7 +27,7 @@ use Rattle.rows.specs.declared.RowRead.{RowRead}
 use Rattle.rows.specs.Row.{rowFrom, rowAnswer}
 use Rattle.reader.specs.File.{noRule, Rows, good, bad, behindRow, rowOf, rowsFrom}
 use Rattle.reader.specs.File.{rowsReading, rowsAnswer, refusedFile, tableFrom}
-use Rattle.reader.specs.Gathering.{gathered}
+use Rattle.reader.specs.inner.Gathering.{gathered}
 use Rattle.reader.specs.File.{behindSignals, bodyAnswer, fileAnswer, readAnswer}
 use Rattle.header.specs.Header.{headerNumber, signalsAnswer}
 

@@ -1,7 +1,7 @@
--- The reader. Read `Grammar` (the accepted files, and the places of refusals); then `Header` of
--- crate `header`, `Row` of crate `rows`, and `File` (which number and line each other file gets),
--- and `Witness` (number 17). `Gathering` follows the code, and a reader need not believe it.
+-- The reader: `Grammar` (the accepted files, and the places of refusals); then, with `Header` of
+-- crate `header` and `Row` of crate `rows`, `File` (which number and line each other file gets); and
+-- `Witness` (number 17).
 pub mod File
-pub mod Gathering
 pub mod Grammar
 pub mod Witness
+pub mod inner

@@ -15,7 +15,7 @@ ghost use Prim.Native.Nat.{_+_, min};
 ghost use lib.ListN.{length};
 ghost use Rattle.text.specs.Lines.{lines};
 ghost use Rattle.reader.specs.File.{emptyTable, refusedFile, tableFrom, rowsAnswer};
-ghost use Rattle.reader.specs.Gathering.{gathered};
+ghost use Rattle.reader.specs.inner.Gathering.{gathered};
 ghost use Rattle.reader.specs.File.{bodyAnswer, readAnswer};
 
 pub const MOST_BYTES: usize = 4096;

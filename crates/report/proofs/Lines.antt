@@ -3,7 +3,7 @@ use Prim.Native.Nat.{ℕ}
 use mathlib.Core.List.{List, [], _∷_, _++_, append-assoc}
 use Rattle.text.specs.Lines.{LF, ended}
 use Rattle.text.proofs.Joins.{ended-append}
-use Rattle.report.specs.Buffer.{Puts}
+use Rattle.report.specs.inner.Puts.{Puts}
 use Rattle.report.proofs.Puts.{puts-append}
 
 -- A line, and then others; and lines, and then others.

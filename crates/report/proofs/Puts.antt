@@ -5,7 +5,8 @@ use mathlib.Core.List.{List, [], _∷_, _++_}
 use mathlib.Core.Path.{_≡_, refl, sym, ap, _∙_}
 use lib.ListN.{length, set, length-append}
 use lib.Seq.{sets, length-sets}
-use Rattle.report.specs.Buffer.{written, Puts, Countable}
+use Rattle.report.specs.Buffer.{written}
+use Rattle.report.specs.inner.Puts.{Puts, Countable}
 
 sets-append : (xs ys buffer : List ℕ) (at : ℕ)
     → sets buffer at (xs ++ ys) ≡ sets (sets buffer at xs) (at + length xs) ys

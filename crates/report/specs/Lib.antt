@@ -1,4 +1,4 @@
--- The report. Read `Report`, and `written` in `Buffer`; `Puts` and `Countable` there follow the
--- code.
+-- The report.
 pub mod Report
 pub mod Buffer
+pub mod inner

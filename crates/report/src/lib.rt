@@ -9,7 +9,8 @@ ghost use lib.ListN.{length, take};
 ghost use Prim.Native.Nat.{_+_, _≤_};
 ghost use Rattle.text.specs.Bounds.{decimal};
 ghost use Rattle.text.specs.Lines.{LF as lineEnd, ended};
-ghost use Rattle.report.specs.Buffer.{written, Puts, Countable};
+ghost use Rattle.report.specs.Buffer.{written};
+ghost use Rattle.report.specs.inner.Puts.{Puts, Countable};
 ghost use Rattle.report.specs.Report.{refusedLine, sizeLines, tickLine, tickLines};
 ghost use Rattle.report.specs.Report.{trapLines, reportBytes};
 

@@ -4,7 +4,7 @@ ghost use mathlib.Core.List.{[], _∷_};
 ghost use mathlib.Core.Path.{_≡_};
 ghost use lib.ListN.{set};
 ghost use Rattle.text.specs.Bounds.{decimal as decimalOf};
-ghost use Rattle.report.specs.Buffer.{Puts, Countable};
+ghost use Rattle.report.specs.inner.Puts.{Puts, Countable};
 ghost use Rattle.report.specs.Report.{values as valuesOf};
 
 fn store(out: &mut [u8], at: usize, b: u8)

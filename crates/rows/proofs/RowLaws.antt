@@ -31,7 +31,7 @@ use Rattle.rows.specs.declared.Values.{Values}
 use Rattle.rows.specs.Row.{isBound, ticksField, judgedField, fieldOf, fieldsOf}
 use Rattle.rows.specs.Row.{firstFault, valueOf, setsFrom, boundsFrom, ordered, rowRead}
 use Rattle.rows.specs.Row.{rowRefused, ruleWord, rowFields}
-use Rattle.rows.specs.Gathering.{valuesAnswer}
+use Rattle.rows.specs.inner.Gathering.{valuesAnswer}
 use Rattle.conditions.proofs.Judging.{judge-some}
 
 -- A field that is turned down has a number.

@@ -1,4 +1,3 @@
--- A row's line. Read `Row` (numbers 10 to 15, and what the line gives). `Gathering` follows the
--- code, and a reader need not believe it.
+-- A row's line: `Row` has numbers 10 to 15, and what the line gives.
 pub mod Row
-pub mod Gathering
+pub mod inner

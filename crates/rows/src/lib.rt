@@ -16,7 +16,7 @@ ghost use Rattle.letters.specs.Letter.{width};
 ghost use Rattle.text.specs.Split.{count, split, front};
 ghost use Rattle.rows.specs.Row.{rowFrom, isBound, boundField, conditionField, fieldOf};
 ghost use Rattle.rows.specs.Row.{faultOf, lineFields, boundsFrom, rowRead};
-ghost use Rattle.rows.specs.Gathering.{valuesAnswer};
+ghost use Rattle.rows.specs.inner.Gathering.{valuesAnswer};
 ghost use Rattle.rows.specs.Row.{rowRefused};
 ghost use Rattle.rows.specs.Row.{rowAnswer};
 

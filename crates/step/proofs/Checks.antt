@@ -10,7 +10,7 @@ use Rattle.step.specs.declared.Phase.the-variants.{Waiting, Trigger, Del
 use Rattle.step.specs.declared.Checked.{Checked}
 use Rattle.step.specs.declared.Checked.the-variants.{Over, On, Out}
 use Rattle.step.specs.Step.{actionCheck, delayCheck, triggerCheck}
-use Rattle.step.specs.Check.{checkOf}
+use Rattle.step.specs.inner.Check.{checkOf}
 
 -- What each check makes of the shared one; `over` is the phase if this one is over.
 unfoldable pub actionEnds : Checked → Phase

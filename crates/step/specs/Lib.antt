@@ -1,7 +1,6 @@
--- Phases and step rules. Read `Phase`, `Step`, `Tick`, `Fits`; `Check` only names what the code's
--- three checks share.
+-- Phases and step rules.
 pub mod Phase
 pub mod Step
 pub mod Tick
 pub mod Fits
-pub mod Check
+pub mod inner

@@ -10,7 +10,7 @@ use table::TSE;
 ghost use mathlib.Core.Path.{_≡_};
 ghost use Rattle.step.specs.Phase.{codeOf, phaseOf};
 ghost use Rattle.step.specs.Step.{actionCheck, delayCheck, triggerCheck, stepped};
-ghost use Rattle.step.specs.Check.{checkOf};
+ghost use Rattle.step.specs.inner.Check.{checkOf};
 ghost use Rattle.step.specs.Fits.{ticksFit, phaseFits, isWaiting};
 
 // A row is waiting, or in trigger, delay or action with its elapsed ticks, or broken.

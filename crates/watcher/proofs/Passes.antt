@@ -27,7 +27,7 @@ use Rattle.watcher.specs.declared.Watch.{Watch}
 use Rattle.watcher.specs.declared.pass.Pass.{Pass}
 use Rattle.watcher.specs.Watch.{slotOf, phasesOf, watchOf}
 use Rattle.watcher.specs.Answer.{firstNumber, answered, tickAnswer}
-use Rattle.watcher.specs.Pass.{phaseAt, begun, moved, rowTaken, passOver, finished}
+use Rattle.watcher.specs.inner.Pass.{phaseAt, begun, moved, rowTaken, passOver, finished}
 use Rattle.watcher.proofs.Records.{slots-phases, phases-length}
 
 -- A loop's turn at row i, and its end.

@@ -8,7 +8,7 @@ use Rattle.step.specs.declared.Phase.the-variants.{Waiting}
 use Rattle.watcher.specs.declared.Slot.{Slot}
 use Rattle.watcher.specs.declared.Watch.{Watch}
 use Rattle.watcher.specs.Watch.{slotOf, phasesOf, watchOf}
-use Rattle.watcher.specs.Pass.{phaseAt}
+use Rattle.watcher.specs.inner.Pass.{phaseAt}
 
 pub slots-phases : (slots : List Slot) → map slotOf (map (λ (s : Slot). s .phase) slots) ≡ slots
 slots-phases [] = refl

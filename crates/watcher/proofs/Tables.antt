@@ -28,7 +28,7 @@ use Rattle.watcher.specs.declared.Watch.{Watch}
 use Rattle.watcher.specs.Watch.{phasesOf, watchOf}
 use Rattle.watcher.specs.Answer.{firstNumber, refusedWith, answered, tickAnswer, tableTick}
 use Rattle.watcher.specs.Answer.{tablePlay}
-use Rattle.watcher.specs.Pass.{begun, passOver, finished}
+use Rattle.watcher.specs.inner.Pass.{begun, passOver, finished}
 use Rattle.watcher.proofs.Passes.{pass-answer}
 use Rattle.table.specs.Limits.{mostRows}
 use Rattle.watcher.proofs.Records.{watch-phases, phases-watch}

@@ -1,5 +1,4 @@
--- The watcher. Read `Watch`, then `Answer`. `Pass` follows the code, and a reader need not believe
--- it.
+-- The watcher.
 pub mod Watch
 pub mod Answer
-pub mod Pass
+pub mod inner

@@ -1,4 +1,4 @@
-// One pass over the rows of a table: what it has found so far, by value. specs/Pass.antt follows
+// One pass over the rows of a table: what it has found so far, by value. specs/inner/Pass.antt follows
 // this code; what is right is said in specs/Answer.antt.
 use crate::Slot;
 use crate::Ticked;
@@ -14,7 +14,7 @@ ghost use Rattle.letters.specs.Lists.{every};
 ghost use Rattle.step.specs.Fits.{isWaiting};
 ghost use Rattle.watcher.specs.Watch.{phasesOf};
 ghost use Rattle.watcher.specs.Answer.{refusedWith};
-ghost use Rattle.watcher.specs.Pass.{begun, rowTaken, passOver, finished};
+ghost use Rattle.watcher.specs.inner.Pass.{begun, rowTaken, passOver, finished};
 
 // Whether the rows (17) and the phases (18) passed so far, and the state with the rows so far moved
 // on.

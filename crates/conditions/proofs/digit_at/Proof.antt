@@ -2,7 +2,7 @@
 use borrow.Author.Needs.{needs}
 use native.Mathlib.Omega.{arith}
 use mathlib.Core.Path.{sym, _∙_}
-use Rattle.conditions.specs.Reading.{digitAt}
+use Rattle.conditions.specs.inner.Reading.{digitAt}
 use Rattle.conditions.proofs.Bytes.{isAt-lt}
 use Rattle.conditions.proofs.digit_at.Statement.{statement}
 use Rattle.conditions.proofs.digit_at.Tie as tie

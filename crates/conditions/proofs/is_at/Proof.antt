@@ -1,7 +1,7 @@
 -- `conditions::is_at` meets its contract. Assumes nothing.
 use borrow.Author.Needs.{needs}
 use borrow.Author.Tests.{lt-ltb, le-ltb}
-use Rattle.conditions.specs.Reading.{isAt}
+use Rattle.conditions.specs.inner.Reading.{isAt}
 use Rattle.conditions.proofs.is_at.Statement.{statement}
 use Rattle.conditions.proofs.is_at.Tie as tie
 

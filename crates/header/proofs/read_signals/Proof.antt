@@ -2,7 +2,7 @@
 -- names, and those of the first six are kept. The measure: how many bytes are left. Assumes
 -- nothing.
 use Rattle.header.proofs.SignalLaws.{ends-none, ends-many, ends-twice, ends-good}
-use Rattle.header.specs.Gathering.{nameAdded}
+use Rattle.header.specs.inner.Gathering.{nameAdded}
 use Rattle.letters.proofs.Lists.{sameBytes-true, sameBytes-false}
 use Rattle.header.proofs.HeaderLaws.{name-short}
 use borrow.Author.Tests.{not-true, not-false}

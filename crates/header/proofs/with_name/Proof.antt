@@ -1,6 +1,6 @@
 -- `header::with_name` meets its contract. Assumes nothing.
 use borrow.Author.Tests.{lt-ltb, le-ltb}
-use Rattle.header.specs.Gathering.{nameAdded}
+use Rattle.header.specs.inner.Gathering.{nameAdded}
 use borrow.Author.Needs.{needs}
 use Rattle.header.proofs.with_name.Statement.{statement}
 use Rattle.header.proofs.with_name.Tie as tie

@@ -10,7 +10,7 @@ use lib.ListN.{length, getD, take, drop, length-take, drop-of-length-le}
 use lib.Seq.{drop-cons, getD-take}
 use Rattle.letters.proofs.Lists.{lt-length-take}
 use Rattle.text.specs.Lines.{LF, ended}
-use Rattle.report.specs.Buffer.{Puts, Countable}
+use Rattle.report.specs.inner.Puts.{Puts, Countable}
 use Rattle.report.specs.Report.{tickLine, tickLines}
 use Rattle.report.proofs.Puts.{Putting, putting-start, putting-on, putting-end}
 use Rattle.report.proofs.Puts.{putting-length, putting-countable}

@@ -59,7 +59,7 @@ use Rattle.watcher.specs.declared.Watch.{Watch}
 use Rattle.watcher.specs.declared.Ticked.{Ticked}
 use Rattle.watcher.specs.declared.pass.Pass.{Pass}
 use Rattle.watcher.specs.Answer.{tickAnswer}
-use Rattle.watcher.specs.Pass.{begun, rowTaken, passOver, finished}
+use Rattle.watcher.specs.inner.Pass.{begun, rowTaken, passOver, finished}
 use Rattle.watcher.proofs.Passes.{pass-next, pass-end, pass-answer}
 use Rattle.watcher.proofs.Walks.{slots-eight, Meant, fits, made}
 use Rattle.watcher.proofs.Walks.{made-uint, holds, spot, copied, part-copied}

@@ -1,5 +1,5 @@
 -- `watcher::pass::begin` meets its contract, by what the functions below ensure. Assumes nothing.
-use Rattle.watcher.specs.Pass.{begun}
+use Rattle.watcher.specs.inner.Pass.{begun}
 use borrow.Author.Needs.{needs}
 use Rattle.watcher.proofs.pass.begin.Statement.{statement}
 use Rattle.watcher.proofs.pass.begin.Tie as tie

@@ -4,7 +4,7 @@ use borrow.Author.Tests.{not-true, not-false}
 use mathlib.Core.Bool.{true, false}
 use mathlib.Core.Path.{_≡_, sym, _∙_}
 use Rattle.watcher.specs.Answer.{answered}
-use Rattle.watcher.specs.Pass.{finished}
+use Rattle.watcher.specs.inner.Pass.{finished}
 use borrow.Author.Needs.{needs}
 use Rattle.watcher.proofs.pass.finish.Statement.{statement}
 use Rattle.watcher.proofs.pass.finish.Tie as tie

@@ -9,7 +9,7 @@ use borrow.Author.Needs.{needs}
 use native.Mathlib.Omega.{arith}
 use mathlib.Core.Path.{_≡_, sym, _∙_}
 use lib.ListN.{length, take, drop, length-take}
-use Rattle.watcher.specs.Pass.{passOver}
+use Rattle.watcher.specs.inner.Pass.{passOver}
 use Rattle.watcher.proofs.pass.over.Statement.{statement}
 use Rattle.table.specs.Limits.{mostRows}
 use Rattle.watcher.proofs.pass.over.Tie as tie

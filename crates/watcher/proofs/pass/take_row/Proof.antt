@@ -1,7 +1,7 @@
 -- `watcher::pass::take_row` meets its contract: beyond the limit nothing changes, and within it the
 -- row is judged and moved on by the functions below. Assumes nothing.
 use borrow.Author.Tests.{lt-ltb, le-ltb}
-use Rattle.watcher.specs.Pass.{rowTaken}
+use Rattle.watcher.specs.inner.Pass.{rowTaken}
 use borrow.Author.Needs.{needs}
 use Rattle.watcher.proofs.pass.take_row.Statement.{statement}
 use Rattle.table.specs.Limits.{mostRows}

@@ -1,0 +1,9 @@
+-- What need not be believed: it only follows the code, or is tied by theorems to what is.
+pub mod Marks
+pub mod Matching
+pub mod Numbers
+pub mod Explore
+pub mod Least
+pub mod Entries
+pub mod Answer
+pub mod Lists

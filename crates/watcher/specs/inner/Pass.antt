@@ -1,0 +1,57 @@
+-- What the code's pass over the rows does, step by step. `Answer` says what is right.
+use Prim.Native.Nat.{ℕ, _+_}
+use mathlib.Core.Bool.{_&&_, cond}
+use mathlib.Core.List.{List, [], _∷_}
+use lib.Dec.{ltb}
+use lib.ListN.{getD, set, drop}
+use Rattle.letters.specs.Letter.{letterFits}
+use Rattle.letters.specs.Lists.{every}
+use Rattle.table.specs.Limits.{mostSignals, mostRows, countFits}
+use Rattle.table.specs.Row.{rowFits}
+use Rattle.table.specs.declared.Row.{Row}
+use Rattle.step.specs.declared.Phase.{Phase}
+use Rattle.step.specs.declared.Phase.the-variants.{Waiting}
+use Rattle.step.specs.Step.{stepRow}
+use Rattle.step.specs.Fits.{phaseFits, isWaiting}
+use Rattle.watcher.specs.declared.Ticked.{Ticked}
+use Rattle.watcher.specs.declared.Watch.{Watch}
+use Rattle.watcher.specs.declared.pass.Pass.{Pass}
+use Rattle.watcher.specs.Watch.{slotOf, phasesOf}
+use Rattle.watcher.specs.Answer.{firstNumber, answered}
+
+-- The phase of row i.
+abbrev pub phaseAt : Watch → ℕ → Phase
+phaseAt watch i = getD (watch .slots) i (slotOf Waiting) .phase
+
+unfoldable pub begun : ℕ → ℕ → Watch → ℕ → Pass
+begun s n watch letter = record {
+  signals = s;
+  letter = letter;
+  rules = countFits s mostSignals && countFits n mostRows;
+  phases = every isWaiting (drop n (phasesOf watch));
+  watch = watch;
+}
+
+-- Row i moved on, in the state.
+abbrev pub moved : Watch → ℕ → Row → ℕ → Watch
+moved watch i row letter = record {
+  slots = set (watch .slots) i (slotOf (stepRow row letter (phaseAt watch i)));
+}
+
+unfoldable pub rowTaken : Pass → ℕ → Row → Pass
+rowTaken pass i row = cond (ltb i mostRows) (record {
+  signals = pass .signals;
+  letter = pass .letter;
+  rules = pass .rules && rowFits (pass .signals) row;
+  phases = pass .phases && phaseFits row (phaseAt (pass .watch) i);
+  watch = moved (pass .watch) i row (pass .letter);
+}) pass
+
+unfoldable pub passOver : List Row → ℕ → Pass → Pass
+passOver [] i pass = pass
+passOver (row ∷ rows) i pass = passOver rows (i + 1) (rowTaken pass i row)
+
+unfoldable pub finished : Pass → Watch → Ticked
+finished pass watch =
+    answered (firstNumber (pass .rules) (pass .phases) (letterFits (pass .signals) (pass .letter)))
+    (pass .watch) watch
