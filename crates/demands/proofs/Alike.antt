@@ -13,8 +13,9 @@ use Rattle.traces.specs.Verdict.{Trapped}
 use Rattle.search.specs.Answer.{Lent, Searched, roomOf, systemOf, cleared, soundFound}
 use Rattle.search.specs.Answer.{trappedFound}
 use Rattle.search.specs.inner.Computed.{searchAnswer}
-use Rattle.demands.specs.Searching.{Fit, withEntries, RightAnswer, SameLengths, SameScratch}
-use Rattle.demands.specs.Searching.RightAnswer.{is17, is20, is21, isSound, isTrapped}
+use Rattle.demands.specs.Searching.{Fit, SameLengths, SameScratch}
+use Rattle.demands.specs.inner.Answers.{withEntries, ComputedAnswer}
+use Rattle.demands.specs.inner.Answers.ComputedAnswer.{is17, is20, is21, isSound, isTrapped}
 use Rattle.demands.proofs.SearchLaws.{answered, answer-is, not-17, not-20, same-count}
 
 -- Lent memory of the same lengths: the answers differ at most in what 17 leaves, and in the trace
@@ -22,7 +23,7 @@ use Rattle.demands.proofs.SearchLaws.{answered, answer-is, not-17, not-
 module _ (table : Table) (one other : Lent) (lengths : SameLengths one other) where
   record Alike (a : Searched) : Type 0 where
     answer : Searched
-    says : RightAnswer table other answer
+    says : ComputedAnswer table other answer
     found : a .found ≡ answer .found
     scratch : tableFits table ≡ true → SameScratch (a .lent) (answer .lent)
 
@@ -53,7 +54,7 @@ module _ (table : Table) (one other : Lent) (lengths : SameLengths one other) wh
     lost = rw (same-room, lengths .lost);
   }
 
-  alike : {a : Searched} → RightAnswer table one a → Alike a
+  alike : {a : Searched} → ComputedAnswer table one a → Alike a
   alike (is17 p) = record {
     answer = _;
     says = is17 p;
@@ -109,7 +110,7 @@ module _ (one other : Table) (lent held : Lent) (n : ℕ) (fit : Fit one lent n)
     → (length w ≤ length (lent .trace)) × (length w ≤ length (held .trace))) where
   record Chosen (a : Searched) : Type 0 where
     answer : Searched
-    says : RightAnswer other held answer
+    says : ComputedAnswer other held answer
     found : a .found ≡ answer .found
     front : take (a .found .length) (a .lent .trace)
         ≡ take (a .found .length) (answer .lent .trace)
@@ -121,7 +122,7 @@ module _ (one other : Table) (lent held : Lent) (n : ℕ) (fit : Fit one lent n)
     room = room;
   }
 
-  chosen : {a : Searched} → RightAnswer one lent a → Chosen a
+  chosen : {a : Searched} → ComputedAnswer one lent a → Chosen a
   chosen (is17 p) = absurd (not-17 one lent n fit p)
   chosen (is20 p m) = absurd (not-20 one lent n fit m)
   chosen (is21 {k = k} {w = w} f t l) = absurd (omega (arith, short w k t .0))

@@ -30,7 +30,7 @@ use Rattle.search.specs.inner.Computed.{searchAnswer}
 use Rattle.search.specs.declared.Verdict.the-variants.{Sound as SaysSound}
 use Rattle.search.specs.declared.Verdict.the-variants.{Trapped as SaysTrapped}
 use Rattle.demands.specs.Watching.{recordAfter, Accepted}
-use Rattle.demands.specs.Searching.{Dead, Shown, CanGoOn, Fit, withEntries, RightAnswer}
+use Rattle.demands.specs.Searching.{Dead, Shown, CanGoOn, Fit, Entered, RightAnswer}
 use Rattle.demands.specs.Searching.{SameLengths, SameScratch}
 use Rattle.report.specs.Report.{heading, refusedLine, sizeLines, soundLine, trappedLine, tickLines}
 use Rattle.report.specs.Report.{lostWord}
@@ -41,6 +41,7 @@ use Rattle.demands.proofs.Reporting as Reporting
 use Rattle.demands.proofs.WatchLaws as WatchLaws
 use Rattle.demands.proofs.SearchLaws as SearchLaws
 use Rattle.demands.proofs.Alike as Alike
+use Rattle.demands.proofs.Described as Described
 
 -- Demand 2: "The reader accepts exactly the tables that document 01 describes, keeps each name and
 -- bound and gives each condition its meaning" (`IsFile`),
@@ -60,10 +61,10 @@ rows-follow = WatchLaws.row-follows
 -- `RightAnswer`, and what it says is so; and no other answer says what is so.
 module _ (table : Table) (lent : Lent) where
   pub search-answered : RightAnswer table lent (searchAnswer table lent)
-  search-answered = SearchLaws.answered table lent
+  search-answered = Described.described table lent (SearchLaws.answered table lent)
 
   pub search-only : (a : Searched) → RightAnswer table lent a → searchAnswer table lent ≡ a
-  search-only a = SearchLaws.answer-is table lent
+  search-only a right = SearchLaws.answer-is table lent (Described.computed table lent right)
 
   -- "If the states don't fit, and only then, the search says so."
   pub room-exactly : tableFits table ≡ true
@@ -100,16 +101,23 @@ module _ (table : Table) (lent : Lent) (n : ℕ) (fit : Fit table lent n) where
   -- larger. Both verdicts give the count of the states reached."
   pub earliest-shown : (w : List ℕ) (k : ℕ) → Shown (systemOf table) w k
       → length w ≤ length (lent .trace)
-      → searchAnswer table lent
-      ≡ record { found = trappedFound n w k; lent = traced w (withEntries table lent) }
-  earliest-shown w k shown =
-      Searching.trapped-answer table lent n fit w k
-      (Searching.trapped-means (systemOf table) w k .1 shown)
+      → (held : Lent) × Entered table n lent held
+      × (searchAnswer table lent ≡ record { found = trappedFound n w k; lent = traced w held })
+  earliest-shown w k shown short = (
+    _,
+    Described.entered table lent n fit,
+    Searching.trapped-answer table lent n fit w k
+        (Searching.trapped-means (systemOf table) w k .1 shown) short,
+  )
 
   pub sound-counted : CanGoOn (systemOf table)
-      → searchAnswer table lent ≡ record { found = soundFound n; lent = withEntries table lent }
-  sound-counted on = Searching.sound-answer table lent n fit
-      (Searching.sound-means (systemOf table) .1 on)
+      → (held : Lent) × Entered table n lent held
+      × (searchAnswer table lent ≡ record { found = soundFound n; lent = held })
+  sound-counted on = (
+    _,
+    Described.entered table lent n fit,
+    Searching.sound-answer table lent n fit (Searching.sound-means (systemOf table) .1 on),
+  )
 
   -- "A trapped table is refused instead exactly when that trace is longer than its buffer."
   pub buffer-exactly : (w : List ℕ) (k : ℕ) → Shown (systemOf table) w k

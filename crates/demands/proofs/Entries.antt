@@ -35,9 +35,11 @@ use Rattle.scratch.specs.Room.{zeros}
 use Rattle.search.specs.Answer.{Lent, Searched, roomOf, systemOf}
 use Rattle.search.specs.inner.Computed.{entriesWithin}
 use Rattle.search.specs.inner.Computed.{searchAnswer}
-use Rattle.demands.specs.Searching.{Fit, withEntries, SameScratch, EntryShown, ScratchShown}
-use Rattle.demands.specs.Searching.{LostOrZero, EarliestDoomed, SameLengths, RightAnswer}
-use Rattle.demands.specs.Searching.RightAnswer.{is17, is20, is21, isSound, isTrapped}
+use Rattle.demands.specs.Searching.{Fit, SameScratch, EntryShown, ScratchShown}
+use Rattle.demands.specs.inner.Answers.{withEntries}
+use Rattle.demands.specs.Searching.{LostOrZero, EarliestDoomed, SameLengths}
+use Rattle.demands.specs.inner.Answers.{ComputedAnswer}
+use Rattle.demands.specs.inner.Answers.ComputedAnswer.{is17, is20, is21, isSound, isTrapped}
 use Rattle.demands.proofs.SearchLaws.{lawful, tells, answered}
 
 -- The lost number computed for a finished entry: 0 if it is not doomed.
@@ -186,7 +188,7 @@ module _ (table : Table) (lent : Lent) (n : ℕ) (fit : Fit table lent n) where
 
 -- Every answer leaves the lists as long as they were.
 module _ (table : Table) (lent : Lent) where
-  filled-lengths : (n : ℕ) → Fit table lent n → SameLengths lent (withEntries table lent)
+  pub filled-lengths : (n : ℕ) → Fit table lent n → SameLengths lent (withEntries table lent)
   filled-lengths n fit =
       let low = few table lent n fit in
       record {
@@ -209,7 +211,7 @@ module _ (table : Table) (lent : Lent) where
       zeroed : (l : List ℕ) → length l ≡ length (zeros l)
       zeroed l = sym (length-replicate (length l) 0)
 
-      go : {a : Searched} → RightAnswer table lent a → SameLengths lent (a .lent)
+      go : {a : Searched} → ComputedAnswer table lent a → SameLengths lent (a .lent)
       go (is17 p) =
           record { states = refl; befores = refl; letters = refl; lost = refl; trace = refl }
       go (is20 p m) = record {

@@ -24,8 +24,9 @@ use Rattle.report.specs.Report.{heading, refusedLine, sizeLines, soundLine, tra
 use Rattle.report.specs.declared.Answer.{Answer as Told}
 use Rattle.report.specs.Report.{lostWord, reportLines, traceLength, Shows}
 use Rattle.checker.specs.Answer.{sizeOf, answerOf, checkAnswer, programLent}
-use Rattle.demands.specs.Searching.{Fit, RightAnswer}
-use Rattle.demands.specs.Searching.RightAnswer.{is17, is20, is21, isSound, isTrapped}
+use Rattle.demands.specs.Searching.{Fit}
+use Rattle.demands.specs.inner.Answers.{ComputedAnswer}
+use Rattle.demands.specs.inner.Answers.ComputedAnswer.{is17, is20, is21, isSound, isTrapped}
 use Rattle.demands.proofs.SearchLaws as S
 
 module _ (bytes : List ℕ) (lent : Lent) where
@@ -86,7 +87,7 @@ pub searched-shows : (table : Table) (lent : Lent)
 unfolding answerOf
 searched-shows table lent = go _ (S.answered table lent)
   where
-    go : (a : Searched) → RightAnswer table lent a
+    go : (a : Searched) → ComputedAnswer table lent a
         → Shows (table .signals) (a .lent .trace) (answerOf (table .count) (a .found))
     go a (is17 p) = no-trace _ _ _ refl
     go a (is20 p m) = no-trace _ _ _ refl

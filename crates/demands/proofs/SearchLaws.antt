@@ -35,9 +35,10 @@ use Rattle.search.specs.declared.Verdict.the-variants.{Sound as SaysSound}
 use Rattle.search.specs.declared.Verdict.the-variants.{Trapped as SaysTrapped}
 use Rattle.search.proofs.Bound.{count-bounded}
 use Rattle.scratch.proofs.Same.{phases-tell}
-use Rattle.demands.specs.Searching.{Dead, Fit, withEntries, RightAnswer, TrapShown}
+use Rattle.demands.specs.Searching.{Dead, Fit, TrapShown}
+use Rattle.demands.specs.inner.Answers.{withEntries, ComputedAnswer}
 use Rattle.demands.specs.Searching.{TrapRefused, SameScratch}
-use Rattle.demands.specs.Searching.RightAnswer.{is17, is20, is21, isSound, isTrapped}
+use Rattle.demands.specs.inner.Answers.ComputedAnswer.{is17, is20, is21, isSound, isTrapped}
 use Rattle.demands.proofs.Words.{dead-doomed, trapped-shown}
 
 module _ (table : Table) where
@@ -50,7 +51,7 @@ module _ (table : Table) where
 module _ (table : Table) (lent : Lent) where
   -- Each call has one of the five answers.
   judged-answered : tableFits table ≡ true → (r : Answer) → Right (systemOf table) (roomOf lent) r
-      → RightAnswer table lent (judged r lent (withEntries table lent))
+      → ComputedAnswer table lent (judged r lent (withEntries table lent))
   unfolding judged
   judged-answered p r (tooMany-right m) = is20 p m
   judged-answered p r (sound-right c h s) = isSound (record { passes = p; count = c; room = h }) s
@@ -61,18 +62,18 @@ module _ (table : Table) (lent : Lent) where
       fit = record { passes = p; count = c; room = h }
 
       go : Dec (length w ≤ length (lent .trace))
-          → RightAnswer table lent (cond (leb (length w) (length (lent .trace)))
+          → ComputedAnswer table lent (cond (leb (length w) (length (lent .trace)))
           (record { found = trappedFound n w k; lent = traced w (withEntries table lent) })
           (record { found = refusedFound 21; lent = withEntries table lent }))
       go (yes d) = rw (le-leb (length w) (length (lent .trace)) d) (isTrapped fit t d)
       go (no d) = rw (lt-leb (length w) (length (lent .trace)) (omega arith))
           (is21 fit t (omega arith))
 
-  pub answered : RightAnswer table lent (searchAnswer table lent)
+  pub answered : ComputedAnswer table lent (searchAnswer table lent)
   unfolding searchAnswer
   answered = go (tableFits table) refl
     where
-      go : (b : Bool) → tableFits table ≡ b → RightAnswer table lent (cond b
+      go : (b : Bool) → tableFits table ≡ b → ComputedAnswer table lent (cond b
           (judged (answer (systemOf table) samePhases (roomOf lent)) lent (withEntries table lent))
           (record { found = refusedFound 17; lent = lent }))
       go true p = judged-answered p _
@@ -88,7 +89,7 @@ module _ (table : Table) (lent : Lent) where
     answer-only (systemOf table) (roomOf lent) (lawful table) samePhases (tells table) r t,
   )
 
-  pub answer-is : {a : Searched} → RightAnswer table lent a → searchAnswer table lent ≡ a
+  pub answer-is : {a : Searched} → ComputedAnswer table lent a → searchAnswer table lent ≡ a
   unfolding judged
   answer-is (is17 p) = unfold searchAnswer in rw p
   answer-is (is20 p m) = right-judged p tooMany (tooMany-right m)
@@ -110,7 +111,7 @@ module _ (table : Table) (lent : Lent) where
   pub says-17 : numberOf (searchAnswer table lent .found .outcome) ≡ 17 → tableFits table ≡ false
   says-17 = go (answered table lent)
     where
-      go : {a : Searched} → RightAnswer table lent a → numberOf (a .found .outcome) ≡ 17
+      go : {a : Searched} → ComputedAnswer table lent a → numberOf (a .found .outcome) ≡ 17
           → tableFits table ≡ false
       go (is17 p) e = p
       go (is20 p m) e = absurd (omega arith)
@@ -122,7 +123,7 @@ module _ (table : Table) (lent : Lent) where
       → ReachedMany (systemOf table) (suc (roomOf lent))
   says-20 = go (answered table lent)
     where
-      go : {a : Searched} → RightAnswer table lent a → numberOf (a .found .outcome) ≡ 20
+      go : {a : Searched} → ComputedAnswer table lent a → numberOf (a .found .outcome) ≡ 20
           → ReachedMany (systemOf table) (suc (roomOf lent))
       go (is17 p) e = absurd (omega arith)
       go (is20 p m) e = m
@@ -146,7 +147,7 @@ module _ (table : Table) (lent : Lent) where
       → TrapRefused table lent (searchAnswer table lent)
   says-21 = go (answered table lent)
     where
-      go : {a : Searched} → RightAnswer table lent a → numberOf (a .found .outcome) ≡ 21
+      go : {a : Searched} → ComputedAnswer table lent a → numberOf (a .found .outcome) ≡ 21
           → TrapRefused table lent a
       go (is17 p) e = absurd (omega arith)
       go (is20 p m) e = absurd (omega arith)
@@ -157,7 +158,7 @@ module _ (table : Table) (lent : Lent) where
   pub says-sound : searchAnswer table lent .found .verdict ≡ SaysSound → Sound (systemOf table)
   says-sound = go (answered table lent)
     where
-      go : {a : Searched} → RightAnswer table lent a → a .found .verdict ≡ SaysSound
+      go : {a : Searched} → ComputedAnswer table lent a → a .found .verdict ≡ SaysSound
           → Sound (systemOf table)
       go (is17 p) e = absurd (clash (cc))
       go (is20 p m) e = absurd (clash (cc))
@@ -169,7 +170,7 @@ module _ (table : Table) (lent : Lent) where
   pub line-zero : lineOf (searchAnswer table lent .found .outcome) ≡ 0
   line-zero = go (answered table lent)
     where
-      go : {a : Searched} → RightAnswer table lent a → lineOf (a .found .outcome) ≡ 0
+      go : {a : Searched} → ComputedAnswer table lent a → lineOf (a .found .outcome) ≡ 0
       go (is17 p) = refl
       go (is20 p m) = refl
       go (is21 f t l) = refl
@@ -181,7 +182,7 @@ module _ (table : Table) (lent : Lent) where
       → ((n : ℕ) × Fit table lent n) ⊎ ReachedMany (systemOf table) (suc (roomOf lent))
   fit-or-many q = go (answered table lent)
     where
-      go : {a : Searched} → RightAnswer table lent a
+      go : {a : Searched} → ComputedAnswer table lent a
           → ((n : ℕ) × Fit table lent n) ⊎ ReachedMany (systemOf table) (suc (roomOf lent))
       go (is17 p) = absurd (true≢false (sym q ∙ p))
       go (is20 p m) = inr m
@@ -196,7 +197,7 @@ module _ (table : Table) (lent : Lent) where
       fit-most : (n : ℕ) → Fit table lent n → n ≤ mostStates (rowsOf table)
       fit-most n f = count-bounded (table .signals) (rowsOf table) n (f .count .many)
 
-      go : {a : Searched} → RightAnswer table lent a → a .found .count ≤ mostStates (rowsOf table)
+      go : {a : Searched} → ComputedAnswer table lent a → a .found .count ≤ mostStates (rowsOf table)
       go (is17 p) = omega arith
       go (is20 p m) = omega arith
       go (is21 f t l) = omega arith
@@ -246,7 +247,7 @@ module _ (table : Table) (lent : Lent) (n : ℕ) (fit : Fit table lent n) where
       → TrapShown table lent n (searchAnswer table lent)
   says-trapped = go (answered table lent)
     where
-      go : {a : Searched} → RightAnswer table lent a → a .found .verdict ≡ SaysTrapped
+      go : {a : Searched} → ComputedAnswer table lent a → a .found .verdict ≡ SaysTrapped
           → TrapShown table lent n a
       go (is17 p) e = absurd (clash (cc))
       go (is20 p m) e = absurd (clash (cc))
@@ -261,7 +262,7 @@ module _ (table : Table) (lent : Lent) (n : ℕ) (fit : Fit table lent n) where
       ⊎ TrapRefused table lent (searchAnswer table lent)
   doomed-answer v u d = go (answered table lent)
     where
-      go : {a : Searched} → RightAnswer table lent a
+      go : {a : Searched} → ComputedAnswer table lent a
           → TrapShown table lent n a ⊎ TrapRefused table lent a
       go (is17 p) = absurd (not-17 p)
       go (is20 p m) = absurd (not-20 m)
@@ -328,7 +329,7 @@ module _ (table : Table) (lent : Lent) (n : ℕ) (fit : Fit table lent n) where
       same : SameScratch (withEntries table lent) (withEntries table lent)
       same = record { states = refl; befores = refl; letters = refl; lost = refl }
 
-      go : {a : Searched} → RightAnswer table lent a
+      go : {a : Searched} → ComputedAnswer table lent a
           → SameScratch (a .lent) (withEntries table lent)
       go (is17 p) = absurd (not-17 p)
       go (is20 p m) = absurd (not-20 m)

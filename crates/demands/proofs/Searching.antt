@@ -21,10 +21,11 @@ use Rattle.search.specs.Bound.{mostStates}
 use Rattle.successors.specs.State.{packed, unpacked}
 use Rattle.search.specs.declared.Verdict.the-variants.{Sound as SaysSound}
 use Rattle.search.specs.declared.Verdict.the-variants.{Trapped as SaysTrapped}
-use Rattle.demands.specs.Searching.{Dead, Shown, CanGoOn, Fit, withEntries}
+use Rattle.demands.specs.Searching.{Dead, Shown, CanGoOn, Fit}
+use Rattle.demands.specs.inner.Answers.{withEntries}
 use Rattle.demands.specs.Searching.{TrapShown, TrapRefused, SameLengths, SameScratch}
 use Rattle.demands.specs.Searching.{ScratchShown, EarliestDoomed}
-use Rattle.demands.specs.Searching.RightAnswer.{is17, is20}
+use Rattle.demands.specs.inner.Answers.ComputedAnswer.{is17, is20}
 use Rattle.demands.proofs.Words as Words
 use Rattle.demands.proofs.SearchLaws as Laws
 use Rattle.demands.proofs.Entries as Entries

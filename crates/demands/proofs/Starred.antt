@@ -27,13 +27,15 @@ use Rattle.step.specs.Step.{actionCheck, delayCheck, triggerCheck, stepRow}
 use Rattle.step.specs.Tick.{tick, tableSystem}
 use Rattle.step.proofs.Systems.{table-lawful}
 use Rattle.scratch.specs.inner.Same.{kindOf, elapsed, samePhase, samePhases}
-use Rattle.search.specs.Answer.{Lent, roomOf, traced, trappedFound}
+use Rattle.search.specs.Answer.{Lent, roomOf, systemOf, traced, trappedFound}
 use Rattle.search.specs.inner.Computed.{judged, searchAnswer}
 use Rattle.scratch.proofs.Same.{phases-tell}
 use Rattle.demands.specs.Cases.{P, Case, Means, trappedWith, right, starred, report, delayed}
 use Rattle.demands.specs.Cases.Case.{after, traps}
-use Rattle.demands.specs.Searching.{withEntries}
+use Rattle.demands.specs.inner.Answers.{withEntries}
+use Rattle.demands.specs.Searching.{Fit}
 use Rattle.demands.proofs.SearchLaws.{right-judged}
+use Rattle.demands.proofs.Described.{entered}
 
 pub starred-right : every right starred ≡ true
 unfolding every right starred run codeOf stepRow triggerCheck delayCheck actionCheck bitAt setOf
@@ -58,20 +60,41 @@ trapped-room : (X : System) (room other : ℕ) (w : List ℕ) (k n : ℕ) → n 
     → Right X room (trapped n w k) → Right X other (trapped n w k)
 trapped-room X room other w k n h (trapped-right c q t) = trapped-right c h t
 
+table-right : (rows : List Row) (w : List ℕ) (k n : ℕ) → right (traps rows w k n) ≡ true
+    → (room : ℕ) → n ≤ room → Right (tableSystem 2 rows) room (trapped n w k)
+unfolding right
+table-right rows w k n h room fits =
+    let X = tableSystem 2 rows in
+    trapped-room X 8 room w k n fits (rw (trapped-is w k n (answer X samePhases 8) h) at
+    (answer-right X 8 (table-lawful 2 rows) samePhases (phases-tell 2 rows)))
+
+-- The whole answer, with the scratch computed.
+module _ (rows : List Row) (w : List ℕ) (k n : ℕ) (h : right (traps rows w k n) ≡ true)
+    (table : Table) (lent : Lent) (passes : tableFits table ≡ true) (signals : table .signals ≡ 2)
+    (is : rowsOf table ≡ rows) (room : n ≤ roomOf lent) where
+  rightly : Right (systemOf table) (roomOf lent) (trapped n w k)
+  rightly = rw (signals, is) (table-right rows w k n h (roomOf lent) room)
+
+  fit : Fit table lent n
+  fit = go rightly
+    where
+      go : Right (systemOf table) (roomOf lent) (trapped n w k) → Fit table lent n
+      go (trapped-right c low t) = record { passes = passes; count = c; room = low }
+
+  table-is : length w ≤ length (lent .trace)
+      → searchAnswer table lent
+      ≡ record { found = trappedFound n w k; lent = traced w (withEntries table lent) }
+  unfolding judged
+  table-is short = right-judged table lent passes (trapped n w k) rightly
+      ∙ rw (le-leb (length w) (length (lent .trace)) short)
+
 table-means : (rows : List Row) (w : List ℕ) (k n : ℕ) → right (traps rows w k n) ≡ true
     → Means (traps rows w k n)
-unfolding right judged
-table-means rows w k n h table lent passes signals is room short =
-    right-judged table lent passes (trapped n w k)
-    (rw (signals, is) (trapped-room X 8 (roomOf lent) w k n room computed))
-    ∙ rw (le-leb (length w) (length (lent .trace)) short)
-  where
-    X : System
-    X = tableSystem 2 rows
-
-    computed : Right X 8 (trapped n w k)
-    computed = rw (trapped-is w k n (answer X samePhases 8) h) at
-        (answer-right X 8 (table-lawful 2 rows) samePhases (phases-tell 2 rows))
+table-means rows w k n h table lent passes signals is room short = (
+  withEntries table lent,
+  entered table lent n (fit rows w k n h table lent passes signals is room),
+  table-is rows w k n h table lent passes signals is room short,
+)
 
 pub right-means : (case : Case) → right case ≡ true → Means case
 unfolding right
@@ -91,7 +114,9 @@ module _ (table : Table) (lent : Lent) (passes : tableFits table ≡ true)
         lent = traced (1 ∷ []) (withEntries table lent);
       }
   unfolding starred
-  report-trapped is room = starred-means 14 (omega arith) table lent passes signals is room short
+  report-trapped is room =
+      table-is report (1 ∷ []) 1 2 (every-at right starred 14 (after P [] 0) starred-right (omega arith))
+      table lent passes signals is room short
 
   -- "One row `a,a,a,0,0,0,3,0,0,0,0,0`: trapped, trace 1, lost 3, four states."
   pub delayed-trapped : rowsOf table ≡ delayed → 4 ≤ roomOf lent
@@ -100,4 +125,6 @@ module _ (table : Table) (lent : Lent) (passes : tableFits table ≡ true)
         lent = traced (1 ∷ []) (withEntries table lent);
       }
   unfolding starred
-  delayed-trapped is room = starred-means 15 (omega arith) table lent passes signals is room short
+  delayed-trapped is room =
+      table-is delayed (1 ∷ []) 3 4 (every-at right starred 15 (after P [] 0) starred-right (omega arith))
+      table lent passes signals is room short

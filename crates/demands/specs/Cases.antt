@@ -20,7 +20,7 @@ use Rattle.step.specs.Tick.{rowSystem, tableSystem}
 use Rattle.scratch.specs.inner.Same.{samePhases}
 use Rattle.search.specs.Answer.{Lent, roomOf, traced, trappedFound}
 use Rattle.search.specs.inner.Computed.{searchAnswer}
-use Rattle.demands.specs.Searching.{withEntries}
+use Rattle.demands.specs.Searching.{Entered}
 
 -- The conditions of the rows, as sets of the four letters.
 abbrev a : ℕ
@@ -93,8 +93,8 @@ Means (after row letters code) = codeOf (run (rowSystem 2 row) Waiting letters) 
 Means (traps rows w k n) = (table : Table) (lent : Lent) → tableFits table ≡ true
     → table .signals ≡ 2 → rowsOf table ≡ rows → n ≤ roomOf lent
     → length w ≤ length (lent .trace)
-    → searchAnswer table lent
-    ≡ record { found = trappedFound n w k; lent = traced w (withEntries table lent) }
+    → (held : Lent) × Entered table n lent held
+    × (searchAnswer table lent ≡ record { found = trappedFound n w k; lent = traced w held })
 
 unfoldable pub starred : List Case
 starred =

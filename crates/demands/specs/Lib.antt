@@ -2,3 +2,4 @@ pub mod Watching
 pub mod Searching
 pub mod Cases
 pub mod Texts
+pub mod inner

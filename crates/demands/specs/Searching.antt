@@ -17,7 +17,6 @@ use Rattle.step.specs.declared.Phase.{Phase}
 use Rattle.step.specs.Tick.{startPhases}
 use Rattle.successors.specs.State.{packed}
 use Rattle.search.specs.Answer.{Lent, Searched, roomOf, systemOf, cleared}
-use Rattle.search.specs.inner.Computed.{entriesWithin, filled}
 use Rattle.search.specs.Answer.{atFront, traced, refusedFound, soundFound, trappedFound}
 
 -- Demand 3 in its own words, over traces. "Some unbroken trace has a number of ticks after which
@@ -47,26 +46,6 @@ pub record Fit (table : Table) (lent : Lent) (n : ℕ) : Type 0 where
   pub passes : tableFits table ≡ true
   pub count : ReachedCount (systemOf table) n
   pub room : n ≤ roomOf lent
-
--- The lent memory with the entries in its scratch: "21 leaves it as under a verdict".
-abbrev pub withEntries : Table → Lent → Lent
-withEntries table lent = filled table (entriesWithin (roomOf lent) table) lent
-
--- "The search tests 17, 20, 21": all that a call can answer, and what each answer says.
-pub data RightAnswer (table : Table) (lent : Lent) : Searched → Type 0 where
-  is17 : tableFits table ≡ false
-      → RightAnswer table lent (record { found = refusedFound 17; lent = lent })
-  is20 : tableFits table ≡ true → ReachedMany (systemOf table) (suc (roomOf lent))
-      → RightAnswer table lent (record { found = refusedFound 20; lent = cleared lent })
-  is21 : {n k : ℕ} {w : List ℕ} → Fit table lent n → Trapped (systemOf table) w k
-      → length (lent .trace) < length w
-      → RightAnswer table lent (record { found = refusedFound 21; lent = withEntries table lent })
-  isSound : {n : ℕ} → Fit table lent n → Sound (systemOf table)
-      → RightAnswer table lent (record { found = soundFound n; lent = withEntries table lent })
-  isTrapped : {n k : ℕ} {w : List ℕ} → Fit table lent n → Trapped (systemOf table) w k
-      → length w ≤ length (lent .trace)
-      → RightAnswer table lent
-      (record { found = trappedFound n w k; lent = traced w (withEntries table lent) })
 
 -- What is answered of a trapped table: the trace and its lost number, with n states,
 pub record TrapShown (table : Table) (lent : Lent) (n : ℕ) (a : Searched) : Type 0 where
@@ -150,3 +129,27 @@ pub record EarliestDoomed (n : ℕ) (trace : ℕ → List ℕ) (lost : List ℕ)
   pub leads : trace entry ≡ w
   pub number : getD lost entry 0 ≡ k
   pub first : (e : ℕ) → e < entry → getD lost e 0 ≡ 0
+
+-- Lent memory under a verdict, and under 21 ("21 leaves it as under a verdict"): the lists as long
+-- as they were, the scratch with n entries, and the trace buffer as it was.
+pub record Entered (table : Table) (n : ℕ) (lent held : Lent) : Type 0 where
+  pub lengths : SameLengths lent held
+  pub scratch : ScratchShown table n held
+  pub trace : held .trace ≡ lent .trace
+
+-- "The search tests 17, 20, 21": all that a call can answer, and what each answer says.
+pub data RightAnswer (table : Table) (lent : Lent) : Searched → Type 0 where
+  is17 : tableFits table ≡ false
+      → RightAnswer table lent (record { found = refusedFound 17; lent = lent })
+  is20 : tableFits table ≡ true → ReachedMany (systemOf table) (suc (roomOf lent))
+      → RightAnswer table lent (record { found = refusedFound 20; lent = cleared lent })
+  is21 : {n k : ℕ} {w : List ℕ} {held : Lent} → Fit table lent n → Trapped (systemOf table) w k
+      → length (lent .trace) < length w → Entered table n lent held
+      → RightAnswer table lent (record { found = refusedFound 21; lent = held })
+  isSound : {n : ℕ} {held : Lent} → Fit table lent n → Sound (systemOf table)
+      → Entered table n lent held
+      → RightAnswer table lent (record { found = soundFound n; lent = held })
+  isTrapped : {n k : ℕ} {w : List ℕ} {held : Lent} → Fit table lent n
+      → Trapped (systemOf table) w k → length w ≤ length (lent .trace)
+      → Entered table n lent held
+      → RightAnswer table lent (record { found = trappedFound n w k; lent = traced w held })

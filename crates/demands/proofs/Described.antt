@@ -1,0 +1,65 @@
+-- The answers of the search with the scratch computed are those with the scratch described. Assumes
+-- nothing.
+use Prim.Native.Nat.{ℕ}
+use mathlib.Core.Path.{_≡_, refl, sym, _∙_}
+use lib.ListN.{length}
+use Rattle.table.specs.declared.Table.{Table}
+use Rattle.search.specs.Answer.{Lent, Searched}
+use Rattle.demands.specs.Searching.{Fit, SameLengths, SameScratch, Entered, RightAnswer}
+use Rattle.demands.specs.Searching.RightAnswer.{is17, is20, is21, isSound, isTrapped}
+use Rattle.demands.specs.inner.Answers.{withEntries, ComputedAnswer}
+use Rattle.demands.specs.inner.Answers.ComputedAnswer.{is17 as computed17}
+use Rattle.demands.specs.inner.Answers.ComputedAnswer.{is20 as computed20, is21 as computed21}
+use Rattle.demands.specs.inner.Answers.ComputedAnswer.{isSound as computedSound}
+use Rattle.demands.specs.inner.Answers.ComputedAnswer.{isTrapped as computedTrapped}
+use Rattle.demands.proofs.Entries.{scratch-shown, filled-lengths}
+use Rattle.demands.proofs.ScratchLaws.{scratch-same}
+
+-- Lent memory that agrees in all lists is the same.
+lent-same : (one other : Lent) → SameScratch one other → one .trace ≡ other .trace → one ≡ other
+lent-same one other s t = λ i. record {
+  states = s .states i;
+  befores = s .befores i;
+  letters = s .letters i;
+  lost = s .lost i;
+  trace = t i;
+}
+
+module _ (table : Table) (lent : Lent) where
+  -- What is computed is as described,
+  pub entered : (n : ℕ) → Fit table lent n → Entered table n lent (withEntries table lent)
+  entered n fit = record {
+    lengths = filled-lengths table lent n fit;
+    scratch = scratch-shown table lent n fit (withEntries table lent)
+        (record { states = refl; befores = refl; letters = refl; lost = refl });
+    trace = refl;
+  }
+
+  -- and nothing else is.
+  entered-is : (n : ℕ) (held : Lent) → Fit table lent n → Entered table n lent held
+      → held ≡ withEntries table lent
+  entered-is n held fit e =
+      let own = entered n fit in
+      let a = e .lengths in
+      let b = own .lengths in
+      lent-same held (withEntries table lent) (scratch-same table n (e .scratch) (own .scratch) (record {
+        states = sym (a .states) ∙ b .states;
+        befores = sym (a .befores) ∙ b .befores;
+        letters = sym (a .letters) ∙ b .letters;
+        lost = sym (a .lost) ∙ b .lost;
+        trace = sym (a .trace) ∙ b .trace;
+      })) (e .trace)
+
+  pub described : {a : Searched} → ComputedAnswer table lent a → RightAnswer table lent a
+  described (computed17 p) = is17 p
+  described (computed20 p m) = is20 p m
+  described (computed21 f t l) = is21 f t l (entered _ f)
+  described (computedSound f s) = isSound f s (entered _ f)
+  described (computedTrapped f t l) = isTrapped f t l (entered _ f)
+
+  pub computed : {a : Searched} → RightAnswer table lent a → ComputedAnswer table lent a
+  computed (is17 p) = computed17 p
+  computed (is20 p m) = computed20 p m
+  computed (is21 {held = held} f t l e) = rw (entered-is _ held f e) (computed21 f t l)
+  computed (isSound {held = held} f s e) = rw (entered-is _ held f e) (computedSound f s)
+  computed (isTrapped {held = held} f t l e) = rw (entered-is _ held f e) (computedTrapped f t l)

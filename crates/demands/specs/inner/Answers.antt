@@ -1,0 +1,33 @@
+-- The answers of the search with the scratch computed, for the proofs: `RightAnswer` says the same
+-- of it in words.
+use Prim.Native.Nat.{ℕ, suc, _<_, _≤_}
+use mathlib.Core.Bool.{true, false}
+use mathlib.Core.List.{List}
+use mathlib.Core.Path.{_≡_}
+use lib.ListN.{length}
+use Rattle.table.specs.Valid.{tableFits}
+use Rattle.table.specs.declared.Table.{Table}
+use Rattle.traces.specs.Verdict.{ReachedMany, Trapped, Sound}
+use Rattle.search.specs.Answer.{Lent, Searched, roomOf, systemOf, cleared, traced, refusedFound}
+use Rattle.search.specs.Answer.{soundFound, trappedFound}
+use Rattle.search.specs.inner.Computed.{entriesWithin, filled}
+use Rattle.demands.specs.Searching.{Fit}
+
+-- The lent memory with the entries in its scratch.
+abbrev pub withEntries : Table → Lent → Lent
+withEntries table lent = filled table (entriesWithin (roomOf lent) table) lent
+
+pub data ComputedAnswer (table : Table) (lent : Lent) : Searched → Type 0 where
+  is17 : tableFits table ≡ false
+      → ComputedAnswer table lent (record { found = refusedFound 17; lent = lent })
+  is20 : tableFits table ≡ true → ReachedMany (systemOf table) (suc (roomOf lent))
+      → ComputedAnswer table lent (record { found = refusedFound 20; lent = cleared lent })
+  is21 : {n k : ℕ} {w : List ℕ} → Fit table lent n → Trapped (systemOf table) w k
+      → length (lent .trace) < length w
+      → ComputedAnswer table lent (record { found = refusedFound 21; lent = withEntries table lent })
+  isSound : {n : ℕ} → Fit table lent n → Sound (systemOf table)
+      → ComputedAnswer table lent (record { found = soundFound n; lent = withEntries table lent })
+  isTrapped : {n k : ℕ} {w : List ℕ} → Fit table lent n → Trapped (systemOf table) w k
+      → length w ≤ length (lent .trace)
+      → ComputedAnswer table lent
+      (record { found = trappedFound n w k; lent = traced w (withEntries table lent) })
