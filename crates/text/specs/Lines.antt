@@ -7,8 +7,8 @@ use lib.Dec.{eqb}
 abbrev pub LF : ℕ
 LF = 10
 
--- A byte before the first of some lines: bytes behind the last LF count as a line too, which number
--- 3 never lets see.
+-- A byte before the first of some lines. Bytes after the last LF count as a line too; a file that
+-- has such bytes is refused with 3 before its lines are looked at.
 abbrev pub prefixed : ℕ → List (List ℕ) → List (List ℕ)
 prefixed x [] = (x ∷ []) ∷ []
 prefixed x (line ∷ more) = (x ∷ line) ∷ more

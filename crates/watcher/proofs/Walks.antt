@@ -76,7 +76,7 @@ module _ {M : Type 1} {𝓤 : URA M} {H : Heap 𝓤} {A : Atoms 𝓤} (W : Given
   pub made-uint : (b : Width) → Makes 𝓤 H A (UInt b) (Is (UInt b))
   made-uint b = uint-makes 𝓤 H A W b
 
--- The locals of a function, each with that it dies.
+-- The locals of a function: room for a value of each, and that its room is given back.
 abbrev cells : {M : Type 1} {𝓤 : URA M} → List (Ty × ℕ) → List (Item 𝓤)
 cells [] = []
 cells (e ∷ E) = ‵ (froom (e .0) (e .1) 0) ∷ ‵ (fdies (e .0) (e .1)) ∷ cells E

@@ -188,7 +188,8 @@ module _ {M : Type 1} (𝓤 : URA M) (H : Heap 𝓤) (A : Atoms 𝓤) (W : Given
       pass1 ! (init ! 8 refl (tt, (tt, (record { fits = gn .0 }, tt)))) $
       pass1 ! (init ! 6 refl (tt, tt)) $ pass1 ! (init ! 4 refl (tt, record { fits = gl })) $
       pass0 ! $
-      -- [local k at 12 - 2k, and that it dies after it; the tokens 14; what the parameters own 15]
+      -- [local k at 12 - 2k, then that its room is given back; the tokens 14; what the parameters
+      -- own 15]
       move ! (15 ∷ []) $ fsplit ! $ drop ! $ fsplit ! $ move ! (1 ∷ []) $ fsplit ! $ fsplit3 ! $
       drop ! $ move ! (18 ∷ []) $ split3 ! $
       -- [the rows' token; the state's token; true; obs; the borrow; what `letter` owns; what the
@@ -233,7 +234,8 @@ module _ {M : Type 1} (𝓤 : URA M) (H : Heap 𝓤) (A : Atoms 𝓤) (W : Given
       -- [obs; the borrow; the state's token; the locals from 3 on; the rows' token 10; true; …]
       returns ! (look ! 3 refl) $ forget ! 3 refl $ forget ! 4 refl $ forget ! 5 refl $
       forget ! 6 refl $ forget ! 7 refl $ forget ! 8 refl $ forget ! 9 refl $
-      -- [each local, with that it dies; obs; the borrow; the state's token; the rows' token; true]
+      -- [each local, and that its room is given back; obs; the borrow; the state's token; the rows'
+      -- token; true]
       move ! (3 ∷ 12 ∷ 4 ∷ 13 ∷ 5 ∷ 14 ∷ 6 ∷ 15 ∷ 7 ∷ 16 ∷ 8 ∷ 17 ∷ 9 ∷ 18 ∷ []) $
       frees-all ! _ $ keep ! (0 ∷ 1 ∷ 2 ∷ 3 ∷ []) $ by ! (exits r e (parts r v is .0)))))))))))))
 

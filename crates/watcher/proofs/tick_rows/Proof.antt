@@ -176,7 +176,7 @@ module _ {M : Type 1} (𝓤 : URA M) (H : Heap 𝓤) (A : Atoms 𝓤) (W : Given
         ∷ (ty 7, l₇) ∷ (ty 8, l₈) ∷ (ty 9, l₉) ∷ (ty 10, l₁₀) ∷ (ty 11, l₁₁) ∷
         (ty 12, l₁₂) ∷ []
 
-    -- Local k, which lies at a: it has a value, there is room for one, and it dies.
+    -- Local k, which lies at a: it has a value, there is room for one, and that is given back.
     abbrev has : ℕ → ℕ → Val → Item 𝓤
     has k a v = ‵ (fat fullShare (ty k) a 0 v)
 
@@ -310,7 +310,7 @@ module _ {M : Type 1} (𝓤 : URA M) (H : Heap 𝓤) (A : Atoms 𝓤) (W : Given
         returns ! (look ! 0 refl) $ forget ! 0 refl $ forget ! 1 refl $ forget ! 2 refl $
         forget ! 3 refl $ forget ! 4 refl $ forget ! 5 refl $ forget ! 6 refl $ forget ! 9 refl $
         forget ! 10 refl $
-        -- [each local, with that it dies; what the slice owns; the token]
+        -- [each local, and that its room is given back; what the slice owns; the token]
         move ! (0 ∷ 15 ∷ 1 ∷ 16 ∷ 2 ∷ 17 ∷ 3 ∷ 18 ∷ 4 ∷ 19 ∷ 5 ∷ 20 ∷ 6 ∷ 21 ∷ 7
         ∷ 22 ∷ 8 ∷ 23
         ∷ 9 ∷ 24 ∷ 10 ∷ 25 ∷ 11 ∷ 26 ∷ 12 ∷ 27 ∷ []) $
@@ -356,7 +356,8 @@ module _ {M : Type 1} (𝓤 : URA M) (H : Heap 𝓤) (A : Atoms 𝓤) (W : Given
       pass1 ! (init ! 20 refl (tt, (tt, (record { fits = gn .0 }, tt)))) $
       pass1 ! (init ! 18 refl (fits W T.the-type T′.the-laws w isw .0)) $
       pass1 ! (init ! 16 refl (tt, record { fits = gl })) $ pass0 ! $
-      -- [local k at 24 - 2k, and that it dies after it; the token 26; what the parameters own 27]:
+      -- [local k at 24 - 2k, then that its room is given back; the token 26; what the parameters
+      -- own 27]:
       -- _8 = rows.len()
       assigns ! (of-opd ! (part-copied ! 20 refl (sub ! 1 refl (whole !)))) (spot !)
       (init ! 8 refl (tt, record { fits = gn .0 })) $
