@@ -6,9 +6,7 @@ use crate::expected::SOUND;
 use crate::expected::TRAPPED;
 use crate::lent::LONGEST;
 use crate::lent::Lengths;
-use crate::lent::same8;
-use crate::lent::same16;
-use crate::lent::same64;
+use crate::lent::after_search;
 use crate::second::ALL_PARTS;
 use crate::second::LETTER;
 use crate::second::LOST;
@@ -58,13 +56,26 @@ pub fn compare_answers(found: Found, right: Expected) -> u16 {
         | unless(count == right.count, 4)
 }
 
+// The bit of word n, if place i of a list with so many places holds not the number that it should.
+fn wrong(i: usize, places: usize, number: u64, right: u64, n: u8) -> u16 {
+    unless((places <= i) | (number == right), n)
+}
+
+fn wrong16(i: usize, places: usize, number: u16, right: u64, n: u8) -> u16 {
+    wrong(i, places, number as u64, right % 65536, n)
+}
+
+fn wrong8(i: usize, places: usize, number: u8, right: u64, n: u8) -> u16 {
+    wrong(i, places, number as u64, right % 256, n)
+}
+
 // Under a verdict the trace buffer has the trace, "the rest unchanged".
 pub fn compare_lists(
-    states: &[u64; LONGEST],
-    predecessors: &[u16; LONGEST],
-    letters: &[u8; LONGEST],
-    lost: &[u16; LONGEST],
-    trace: &[u8; LONGEST],
+    states: [u64; LONGEST],
+    predecessors: [u16; LONGEST],
+    letters: [u8; LONGEST],
+    lost: [u16; LONGEST],
+    trace: [u8; LONGEST],
     lengths: Lengths,
     answer: &[u64; ALL_PARTS],
     right: Expected,
@@ -72,15 +83,19 @@ pub fn compare_lists(
 ) -> u16 {
     let used = right.used;
     let cleared = right.cleared;
-    let n = lengths.states;
-    let a = same64(states, n, answer, STATE, used, cleared, key);
-    let n = lengths.predecessors;
-    let b = same16(predecessors, n, answer, PREDECESSOR, used, cleared, key);
-    let n = lengths.letters;
-    let c = same8(letters, n, answer, LETTER, used, cleared, key);
-    let n = lengths.lost;
-    let d = same16(lost, n, answer, LOST, used, cleared, key);
-    let n = lengths.trace;
-    let e = same8(trace, n, answer, TRACE, right.length, false, key);
-    unless(a, 5) | unless(b, 6) | unless(c, 7) | unless(d, 8) | unless(e, 9)
+    let mut bits: u16 = 0;
+    for i in 0..LONGEST {
+        let a = after_search(answer, STATE, i, used, cleared, key);
+        let b = after_search(answer, PREDECESSOR, i, used, cleared, key);
+        let c = after_search(answer, LETTER, i, used, cleared, key);
+        let d = after_search(answer, LOST, i, used, cleared, key);
+        let e = after_search(answer, TRACE, i, right.length, false, key);
+        bits = bits
+            | wrong(i, lengths.states, states[i], a, 5)
+            | wrong16(i, lengths.predecessors, predecessors[i], b, 6)
+            | wrong8(i, lengths.letters, letters[i], c, 7)
+            | wrong16(i, lengths.lost, lost[i], d, 8)
+            | wrong8(i, lengths.trace, trace[i], e, 9);
+    }
+    bits
 }

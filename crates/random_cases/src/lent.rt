@@ -1,5 +1,5 @@
 // The lists that are lent to a search: their lengths, the rubbish that they hold before it, and
-// whether they then hold what document 01 says.
+// what they should hold after it by document 01.
 ghost use mathlib.Core.Path.{_≡_};
 ghost use Prim.Native.Nat.{_≤_, _<_};
 ghost use lib.ListN.{length};
@@ -80,39 +80,37 @@ fn rubbish(key: u64, i: usize) -> u64 {
     mixed(key ^ (i as u64))
 }
 
-pub fn rubbish64(key: u64) -> [u64; LONGEST]
-    ensures { λ r. ⌜ 512 ≡ length r ⌝ }
-{
-    let mut list = [0u64; LONGEST];
-    for i in 0..LONGEST {
-        list[i] = rubbish(key, i);
-    }
-    list
+// What the lists hold before the search, by the width of their numbers.
+pub struct Before {
+    pub wide: [u64; LONGEST],
+    pub middle: [u16; LONGEST],
+    pub narrow: [u8; LONGEST],
 }
 
-pub fn rubbish16(key: u64) -> [u16; LONGEST]
-    ensures { λ r. ⌜ 512 ≡ length r ⌝ }
+pub fn before_search(key: u64) -> Before
+    ensures { λ r. ⌜ 512 ≡ length (r .wide) ⌝ }
+    ensures { λ r. ⌜ 512 ≡ length (r .middle) ⌝ }
+    ensures { λ r. ⌜ 512 ≡ length (r .narrow) ⌝ }
 {
-    let mut list = [0u16; LONGEST];
+    let mut wide = [0u64; LONGEST];
+    let mut middle = [0u16; LONGEST];
+    let mut narrow = [0u8; LONGEST];
     for i in 0..LONGEST {
-        list[i] = (rubbish(key, i) % 65536) as u16;
+        let x = rubbish(key, i);
+        wide[i] = x;
+        middle[i] = (x % 65536) as u16;
+        narrow[i] = (x % 256) as u8;
     }
-    list
-}
-
-pub fn rubbish8(key: u64) -> [u8; LONGEST]
-    ensures { λ r. ⌜ 512 ≡ length r ⌝ }
-{
-    let mut list = [0u8; LONGEST];
-    for i in 0..LONGEST {
-        list[i] = (rubbish(key, i) % 256) as u8;
+    Before {
+        wide,
+        middle,
+        narrow,
     }
-    list
 }
 
 // What place i should hold after the search: up to `used` what the answer's part has, and past that
 // 0 if the list was cleared, else what it held.
-fn after_search(
+pub(crate) fn after_search(
     answer: &[u64; ALL_PARTS],
     part: usize,
     i: usize,
@@ -130,71 +128,4 @@ fn after_search(
     } else {
         rubbish(key, i)
     }
-}
-
-// Whether the first n places of a list hold what they should.
-pub(crate) fn same64(
-    list: &[u64; LONGEST],
-    n: usize,
-    answer: &[u64; ALL_PARTS],
-    part: usize,
-    used: usize,
-    cleared: bool,
-    key: u64,
-) -> bool
-    requires { ⌜ part ≤ 2560 ⌝ }
-{
-    for i in 0..LONGEST {
-        let x = after_search(answer, part, i, used, cleared, key);
-        if i < n {
-            if list[i] != x {
-                return false;
-            }
-        }
-    }
-    true
-}
-
-pub(crate) fn same16(
-    list: &[u16; LONGEST],
-    n: usize,
-    answer: &[u64; ALL_PARTS],
-    part: usize,
-    used: usize,
-    cleared: bool,
-    key: u64,
-) -> bool
-    requires { ⌜ part ≤ 2560 ⌝ }
-{
-    for i in 0..LONGEST {
-        let x = after_search(answer, part, i, used, cleared, key);
-        if i < n {
-            if list[i] != (x % 65536) as u16 {
-                return false;
-            }
-        }
-    }
-    true
-}
-
-pub(crate) fn same8(
-    list: &[u8; LONGEST],
-    n: usize,
-    answer: &[u64; ALL_PARTS],
-    part: usize,
-    used: usize,
-    cleared: bool,
-    key: u64,
-) -> bool
-    requires { ⌜ part ≤ 2560 ⌝ }
-{
-    for i in 0..LONGEST {
-        let x = after_search(answer, part, i, used, cleared, key);
-        if i < n {
-            if list[i] != (x % 256) as u8 {
-                return false;
-            }
-        }
-    }
-    true
 }

@@ -18,9 +18,7 @@ use compare::compare_answers;
 use compare::compare_lists;
 use expected::expect;
 use lent::any_lengths;
-use lent::rubbish8;
-use lent::rubbish16;
-use lent::rubbish64;
+use lent::before_search;
 use random::any_table;
 use random::mixed;
 use random::one_in;
@@ -49,11 +47,12 @@ fn attempt(
 ) -> Tally {
     let lengths = any_lengths(seed ^ 4, solved);
     let right = expect(valid, solved, lengths);
-    let mut states = rubbish64(seed);
-    let mut predecessors = rubbish16(seed);
-    let mut letters = rubbish8(seed);
-    let mut lost = rubbish16(seed);
-    let mut trace = rubbish8(seed);
+    let before = before_search(seed);
+    let mut states = before.wide;
+    let mut predecessors = before.middle;
+    let mut letters = before.narrow;
+    let mut lost = before.middle;
+    let mut trace = before.narrow;
     let a = lengths.states;
     let b = lengths.predecessors;
     let c = lengths.letters;
@@ -68,11 +67,11 @@ fn attempt(
         &mut trace[..e],
     );
     let differs = compare_lists(
-        &states,
-        &predecessors,
-        &letters,
-        &lost,
-        &trace,
+        states,
+        predecessors,
+        letters,
+        lost,
+        trace,
         lengths,
         answer,
         right,

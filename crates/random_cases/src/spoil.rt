@@ -1,8 +1,6 @@
 // Table values that number 17 turns down.
 use crate::random::byte_below;
 use crate::reached::letter_count;
-use table::MOST_ROWS;
-use table::MOST_SIGNALS;
 use table::Row;
 use table::Table;
 
@@ -36,23 +34,24 @@ fn bad_row(row: Row, kind: u8, letters: u8) -> Row {
 pub fn spoil(seed: u64, table: Table) -> Table {
     let kind = byte_below(seed, 8);
     let letters = letter_count(table.signals);
-    let mut bad = table;
-    if kind == 0 {
-        bad.signals = 7;
-    }
-    if (kind == 6) & (letters == 64) {
-        bad.signals = 0;
-    }
-    if kind == 1 {
-        bad.count = 0;
-    }
+    let row = bad_row(table.rows[0], kind, letters);
     let mut name = table.names[0];
-    if kind == 2 {
-        name.letters[0] = b'A';
+    let mut bad = table;
+    match kind {
+        0 => bad.signals = 7,
+        1 => bad.count = 0,
+        2 => {
+            name.letters[0] = b'A';
+            bad.names[0] = name;
+        }
+        3 => bad.names[1] = name,
+        7 => bad.rows[7] = row,
+        _ => {
+            bad.rows[0] = row;
+            if (kind == 6) & (letters == 64) {
+                bad.signals = 0;
+            }
+        }
     }
-    let second = if kind == 3 { 1 } else { 0 };
-    let eighth = if kind == 7 { 7 } else { 0 };
-    bad.names[second % MOST_SIGNALS] = name;
-    bad.rows[eighth % MOST_ROWS] = bad_row(table.rows[0], kind, letters);
     bad
 }

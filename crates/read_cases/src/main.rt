@@ -1,6 +1,7 @@
 // Reads each file that its arguments name and prints what the reader makes of it: the refusal, or
 // the table.
 use libc::STDOUT_FILENO;
+use table::CONDITIONS;
 use table::MOST_ROWS;
 use table::MOST_SIGNALS;
 use table::Name;
@@ -46,22 +47,27 @@ fn print_names(names: [Name; MOST_SIGNALS], count: u8) {
     }
 }
 
+// A word, and six numbers behind it.
+fn print_numbers(word: &[u8], numbers: [u64; CONDITIONS]) {
+    print(word);
+    for i in 0..CONDITIONS {
+        print_number(b" ", numbers[i]);
+    }
+}
+
 // `  sets 10 10 10 12 12 12 ticks 0 0 1 1 0 0`.
 fn print_row(row: Row) {
-    print(b"  sets");
-    print_number(b" ", row.sets[0]);
-    print_number(b" ", row.sets[1]);
-    print_number(b" ", row.sets[2]);
-    print_number(b" ", row.sets[3]);
-    print_number(b" ", row.sets[4]);
-    print_number(b" ", row.sets[5]);
-    print(b" ticks");
-    print_byte(b" ", row.tmin);
-    print_byte(b" ", row.tmax);
-    print_byte(b" ", row.lmin);
-    print_byte(b" ", row.lmax);
-    print_byte(b" ", row.amin);
-    print_byte(b" ", row.amax);
+    let ticks = [
+        row.tmin as u64,
+        row.tmax as u64,
+        row.lmin as u64,
+        row.lmax as u64,
+        row.amin as u64,
+        row.amax as u64,
+    ];
+    let sets = row.sets;
+    print_numbers(b"  sets", sets);
+    print_numbers(b" ticks", ticks);
     print(b"\n");
 }
 
@@ -110,9 +116,10 @@ fn show(bytes: &[u8]) {
 fn show_file(i: usize) {
     let mut path = io::buffer();
     let length = os::arg(i, &mut path);
-    print(&path[..length]);
+    let name: &[u8] = &path[..length];
+    print(name);
     print(b": ");
-    let fd = os::open_read(&path[..length]);
+    let fd = os::open_read(name);
     if fd < 0 {
         print(b"no such file\n");
         return;

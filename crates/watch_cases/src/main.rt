@@ -10,6 +10,7 @@ use table::Table;
 use watcher::Slot;
 use watcher::Ticked;
 use watcher::Watch;
+ghost use Prim.Native.Nat.{_≤_};
 
 // The conditions of the rows, as sets of the four letters: `a` holds at 1 and 3, `c` at 2 and 3.
 const A: u64 = 10;
@@ -136,38 +137,65 @@ fn print_letters(trace: &[u8]) {
     }
 }
 
-fn print_case(name: &[u8], table: Table, watch: Watch, trace: &[u8]) {
-    io::write_all(STDOUT_FILENO, name);
+// Where the first digit of a number stands in four places; past them for 0.
+fn first_place(digits: u16) -> usize
+    ensures { λ r. ⌜ r ≤ 4 ⌝ }
+{
+    if 999 < digits {
+        0
+    } else if 99 < digits {
+        1
+    } else if 9 < digits {
+        2
+    } else if 0 < digits {
+        3
+    } else {
+        4
+    }
+}
+
+// Plays a trace, given as a number: its digits are the letters, and 0 stands for no letter at all.
+fn print_play(table: Table, watch: Watch, digits: u16) {
+    let letters = [
+        (digits / 1000 % 10) as u8,
+        (digits / 100 % 10) as u8,
+        (digits / 10 % 10) as u8,
+        (digits % 10) as u8,
+    ];
+    let first = first_place(digits);
+    let trace: &[u8] = &letters[first..];
     print_letters(trace);
     io::write_all(STDOUT_FILENO, b": ");
     print_answer(watcher::play(table, watch, trace));
 }
 
-fn in_phase(phase: Phase) -> Watch {
+fn print_case(name: &[u8], table: Table, watch: Watch, digits: u16) {
+    io::write_all(STDOUT_FILENO, name);
+    print_play(table, watch, digits);
+}
+
+// Plays traces from the start on a table of one row.
+fn print_cases(name: &[u8], row: Row, traces: &[u16]) {
+    let table = one_row(row);
+    let start = watcher::start();
+    for i in 0..traces.len() {
+        print_case(name, table, start, traces[i]);
+    }
+}
+
+fn with_code(code: u8) -> Watch {
     let mut watch = watcher::start();
-    watch.slots[0] = Slot { phase };
+    watch.slots[0] = Slot {
+        phase: step::phase_of(code),
+    };
     watch
 }
 
-fn cases() {
-    let start = watcher::start();
-    let p = one_row(row_p());
-    print_case(b"P", p, start, &[]);
-    print_case(b"P", p, start, &[1]);
-    print_case(b"P", p, start, &[1, 2]);
-    print_case(b"P", p, start, &[1, 0]);
-    print_case(b"P", p, start, &[1, 3]);
-    let q = one_row(row_q());
-    print_case(b"Q", q, start, &[1, 1, 3]);
-    print_case(b"Q", q, start, &[1, 3]);
-    print_case(b"Q", q, start, &[1, 1, 1, 1]);
-    print_case(b"Q", q, start, &[1, 1, 1, 3]);
-    print_case(b"Q", q, start, &[1, 0]);
-    let s = one_row(row_s());
-    print_case(b"S", s, start, &[3]);
-    print_case(b"S", s, start, &[1]);
-    print_case(b"S", s, start, &[3, 3]);
-    print_case(b"S", s, start, &[3, 2, 2]);
+// A case whose name is the code at which it begins.
+fn print_code(table: Table, code: u8, digits: u16) {
+    io::write_all(STDOUT_FILENO, b"code ");
+    io::print_decimal(STDOUT_FILENO, code as u64);
+    print_play(table, with_code(code), digits);
 }
 
 fn refusals() {
@@ -176,35 +204,34 @@ fn refusals() {
     // 17: a bound that no file has comes before a state and a letter that do not fit either.
     let mut long = row_p();
     long.lmax = 61;
-    print_case(
-        b"bound 61",
-        one_row(long),
-        in_phase(step::phase_of(200)),
-        &[4],
-    );
+    print_case(b"bound 61", one_row(long), with_code(200), 4);
     let mut none = p;
     none.count = 0;
-    print_case(b"no rows", none, start, &[1]);
+    print_case(b"no rows", none, start, 1);
     let mut far = row_p();
     far.sets[5] = 16;
-    print_case(b"letter 4 in a set", one_row(far), start, &[1]);
+    print_case(b"letter 4 in a set", one_row(far), start, 1);
     // 18 comes before 19; code 255 is accepted.
-    print_case(b"code 200", p, in_phase(step::phase_of(200)), &[4]);
-    print_case(b"code 62", p, in_phase(step::phase_of(62)), &[1]);
-    print_case(b"code 61", p, in_phase(step::phase_of(61)), &[2]);
-    print_case(b"code 255", p, in_phase(step::phase_of(255)), &[2]);
-    let mut unused = watcher::start();
+    print_code(p, 200, 4);
+    print_code(p, 62, 1);
+    print_code(p, 61, 2);
+    print_code(p, 255, 2);
+    let mut unused = start;
     unused.slots[1] = Slot {
         phase: Phase::Broken,
     };
-    print_case(b"unused row", p, unused, &[1]);
-    print_case(b"letter 4", p, start, &[1, 2, 4]);
-    print_case(b"letter 4", p, in_phase(step::phase_of(61)), &[2, 4]);
-    print_case(b"one signal", one_signal(), start, &[1, 0]);
-    print_case(b"one signal", one_signal(), start, &[1, 2]);
+    print_case(b"unused row", p, unused, 1);
+    let fourth: &[u8] = b"letter 4";
+    print_case(fourth, p, start, 124);
+    print_case(fourth, p, with_code(61), 24);
+    let one: &[u8] = b"one signal";
+    print_case(one, one_signal(), start, 10);
+    print_case(one, one_signal(), start, 12);
 }
 
 fn main() {
-    cases();
+    print_cases(b"P", row_p(), &[0, 1, 12, 10, 13]);
+    print_cases(b"Q", row_q(), &[113, 13, 1111, 1113, 10]);
+    print_cases(b"S", row_s(), &[3, 1, 33, 322]);
     refusals();
 }

@@ -25,7 +25,6 @@ slice-aggregate-search-5 c = sym (length-take-le _ _ (omega arith))
 pub attempt-spec : {M : Type 1} → statement M
 attempt-spec =
     tie.close (tie.spec
-    (λ c κs. search needs) (λ c κs. search needs) (λ c κs. search needs) (λ c κs. search needs)
     (λ c κs. search needs) (λ c κs. search needs) (λ c κs. search needs) (λ c. search needs)
     slice-aggregate-search (λ c. search needs) slice-aggregate-search-2 (λ c. search needs)
     slice-aggregate-search-3 (λ c. search needs) slice-aggregate-search-4 (λ c. search needs)
