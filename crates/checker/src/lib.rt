@@ -51,7 +51,7 @@ fn answer_of(rows: u8, found: Found) -> Answer
 pub fn check(
     bytes: &[u8],
     states: &mut [u64],
-    befores: &mut [u16],
+    predecessors: &mut [u16],
     letters: &mut [u8],
     lost: &mut [u16],
     trace: &mut [u8],
@@ -60,10 +60,10 @@ pub fn check(
     ensures { λ r. ⌜ record {
       length = r;
       out = now (out .exit);
-      lent = lentLists (now (states .exit)) (now (befores .exit)) (now (letters .exit))
+      lent = lentLists (now (states .exit)) (now (predecessors .exit)) (now (letters .exit))
           (now (lost .exit)) (now (trace .exit));
     }
-        ≡ checkCall (now (bytes .entry)) (lentLists (now (states .entry)) (now (befores .entry))
+        ≡ checkCall (now (bytes .entry)) (lentLists (now (states .entry)) (now (predecessors .entry))
         (now (letters .entry)) (now (lost .entry)) (now (trace .entry))) (now (out .entry)) ⌝ }
 {
     let read = reader::read(bytes);
@@ -72,7 +72,7 @@ pub fn check(
         Outcome::Refused(refusal) => report::write(Answer::Refused(refusal), 0, &*trace, out),
         Outcome::Accepted => {
             let table = read.table;
-            let found = search::search(table, states, befores, letters, lost, trace);
+            let found = search::search(table, states, predecessors, letters, lost, trace);
             let answer = answer_of(table.count, found);
             report::write(answer, table.signals, &*trace, out)
         }
@@ -86,14 +86,14 @@ pub fn check_file(bytes: &[u8], out: &mut [u8]) -> usize
         ≡ written (checkAnswer (now (bytes .entry)) programLent .report) (now (out .entry)) ⌝ }
 {
     let mut states = [0u64; ROOM];
-    let mut befores = [0u16; ROOM];
+    let mut predecessors = [0u16; ROOM];
     let mut letters = [0u8; ROOM];
     let mut lost = [0u16; ROOM];
     let mut trace = [0u8; ROOM];
     check(
         bytes,
         &mut states,
-        &mut befores,
+        &mut predecessors,
         &mut letters,
         &mut lost,
         &mut trace,

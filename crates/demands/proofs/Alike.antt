@@ -29,7 +29,7 @@ module _ (table : Table) (one other : Lent) (lengths : SameLengths one other) wh
 
   same-room : roomOf one ≡ roomOf other
   unfolding roomOf
-  same-room = rw (lengths .states, lengths .befores, lengths .letters, lengths .lost)
+  same-room = rw (lengths .states, lengths .predecessors, lengths .letters, lengths .lost)
 
   same-fit : {n : ℕ} → Fit table one n → Fit table other n
   same-fit f = record {
@@ -41,7 +41,7 @@ module _ (table : Table) (one other : Lent) (lengths : SameLengths one other) wh
   same-cleared : SameScratch (cleared one) (cleared other)
   same-cleared = record {
     states = rw (lengths .states);
-    befores = rw (lengths .befores);
+    predecessors = rw (lengths .predecessors);
     letters = rw (lengths .letters);
     lost = rw (lengths .lost);
   }
@@ -49,7 +49,7 @@ module _ (table : Table) (one other : Lent) (lengths : SameLengths one other) wh
   same-entries : SameScratch (withEntries table one) (withEntries table other)
   same-entries = record {
     states = rw (same-room, lengths .states);
-    befores = rw (same-room, lengths .befores);
+    predecessors = rw (same-room, lengths .predecessors);
     letters = rw (same-room, lengths .letters);
     lost = rw (same-room, lengths .lost);
   }
@@ -85,7 +85,7 @@ module _ (table : Table) (one other : Lent) (lengths : SameLengths one other) wh
     found = refl;
     scratch = λ q. record {
       states = same-entries .states;
-      befores = same-entries .befores;
+      predecessors = same-entries .predecessors;
       letters = same-entries .letters;
       lost = same-entries .lost;
     };

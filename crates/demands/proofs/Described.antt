@@ -19,7 +19,7 @@ use Rattle.demands.proofs.ScratchLaws.{scratch-same}
 lent-same : (one other : Lent) → SameScratch one other → one .trace ≡ other .trace → one ≡ other
 lent-same one other s t = λ i. record {
   states = s .states i;
-  befores = s .befores i;
+  predecessors = s .predecessors i;
   letters = s .letters i;
   lost = s .lost i;
   trace = t i;
@@ -31,7 +31,7 @@ module _ (table : Table) (lent : Lent) where
   entered n fit = record {
     lengths = filled-lengths table lent n fit;
     scratch = scratch-shown table lent n fit (withEntries table lent)
-        (record { states = refl; befores = refl; letters = refl; lost = refl });
+        (record { states = refl; predecessors = refl; letters = refl; lost = refl });
     trace = refl;
   }
 
@@ -44,7 +44,7 @@ module _ (table : Table) (lent : Lent) where
       let b = own .lengths in
       lent-same held (withEntries table lent) (scratch-same table n (e .scratch) (own .scratch) (record {
         states = sym (a .states) ∙ b .states;
-        befores = sym (a .befores) ∙ b .befores;
+        predecessors = sym (a .predecessors) ∙ b .predecessors;
         letters = sym (a .letters) ∙ b .letters;
         lost = sym (a .lost) ∙ b .lost;
         trace = sym (a .trace) ∙ b .trace;

@@ -65,9 +65,9 @@ module _ (lent : Lent) where
   unfolding roomOf
   room-states = omega arith
 
-  room-befores : roomOf lent ≤ length (lent .befores)
+  room-predecessors : roomOf lent ≤ length (lent .predecessors)
   unfolding roomOf
-  room-befores = omega arith
+  room-predecessors = omega arith
 
   room-letters : roomOf lent ≤ length (lent .letters)
   unfolding roomOf
@@ -118,9 +118,9 @@ module _ (table : Table) (lent : Lent) (n : ℕ) (fit : Fit table lent n) where
     state-is e h = ap (λ (l : List ℕ). getD l e 0) (same .states)
         ∙ place-at (λ d. packed (d .state)) (lent .states) (room-states lent) e h
 
-    before-is : (e : ℕ) → e < n → getD (held .befores) e 0 ≡ entriesIn table lent .before e
-    before-is e h = ap (λ (l : List ℕ). getD l e 0) (same .befores)
-        ∙ place-at (λ d. d .before) (lent .befores) (room-befores lent) e h
+    before-is : (e : ℕ) → e < n → getD (held .predecessors) e 0 ≡ entriesIn table lent .before e
+    before-is e h = ap (λ (l : List ℕ). getD l e 0) (same .predecessors)
+        ∙ place-at (λ d. d .before) (lent .predecessors) (room-predecessors lent) e h
 
     letter-is : (e : ℕ) → e < n → getD (held .letters) e 0 ≡ entriesIn table lent .letter e
     letter-is e h = ap (λ (l : List ℕ). getD l e 0) (same .letters)
@@ -176,8 +176,8 @@ module _ (table : Table) (lent : Lent) (n : ℕ) (fit : Fit table lent n) where
               (omega (arith, as-many));
           states-end = rw (same .states)
               (place-end (λ d. packed (d .state)) (lent .states) (room-states lent));
-          befores-end = rw (same .befores)
-              (place-end (λ d. d .before) (lent .befores) (room-befores lent));
+          predecessors-end = rw (same .predecessors)
+              (place-end (λ d. d .before) (lent .predecessors) (room-predecessors lent));
           letters-end = rw (same .letters)
               (place-end (λ d. d .letter) (lent .letters) (room-letters lent));
           lost-end = rw (same .lost)
@@ -194,8 +194,8 @@ module _ (table : Table) (lent : Lent) where
       record {
         states = sym (column-length (λ d. packed (d .state)) (length (lent .states))
             (entriesWithin (roomOf lent) table) (omega (arith, room-states lent)));
-        befores = sym (column-length (λ d. d .before) (length (lent .befores))
-            (entriesWithin (roomOf lent) table) (omega (arith, room-befores lent)));
+        predecessors = sym (column-length (λ d. d .before) (length (lent .predecessors))
+            (entriesWithin (roomOf lent) table) (omega (arith, room-predecessors lent)));
         letters = sym (column-length (λ d. d .letter) (length (lent .letters))
             (entriesWithin (roomOf lent) table) (omega (arith, room-letters lent)));
         lost = sym (column-length
@@ -213,10 +213,10 @@ module _ (table : Table) (lent : Lent) where
 
       go : {a : Searched} → ComputedAnswer table lent a → SameLengths lent (a .lent)
       go (is17 p) =
-          record { states = refl; befores = refl; letters = refl; lost = refl; trace = refl }
+          record { states = refl; predecessors = refl; letters = refl; lost = refl; trace = refl }
       go (is20 p m) = record {
         states = zeroed (lent .states);
-        befores = zeroed (lent .befores);
+        predecessors = zeroed (lent .predecessors);
         letters = zeroed (lent .letters);
         lost = zeroed (lent .lost);
         trace = refl;
@@ -227,7 +227,7 @@ module _ (table : Table) (lent : Lent) where
           let s = filled-lengths _ f in
           record {
             states = s .states;
-            befores = s .befores;
+            predecessors = s .predecessors;
             letters = s .letters;
             lost = s .lost;
             trace = sym (length-front (lent .trace) w (length w)
@@ -302,7 +302,7 @@ module _ (table : Table) (n : ℕ) (lent : Lent) (shown : ScratchShown table n l
           → length (shown .trace e) ≤ e
       go zero ih h = omega (arith, ap length (shown .entry 0 h .first refl .0))
       go (suc e) ih h =
-          let before : ℕ = getD (lent .befores) (suc e) 0 in
+          let before : ℕ = getD (lent .predecessors) (suc e) 0 in
           let later = shown .entry (suc e) h .later (omega arith) in
           omega (
             arith,

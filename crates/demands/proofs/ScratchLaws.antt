@@ -118,11 +118,11 @@ module _ (table : Table) (n : ℕ) where
         go (no d) (no c) = omega arith
 
     -- its predecessor and letter
-    back-same : (e : ℕ) → e < n → (getD (l .befores) e 0 ≡ getD (m .befores) e 0)
+    back-same : (e : ℕ) → e < n → (getD (l .predecessors) e 0 ≡ getD (m .predecessors) e 0)
         × (getD (l .letters) e 0 ≡ getD (m .letters) e 0)
     back-same e low = go (decLt 0 e)
       where
-        go : Dec (0 < e) → (getD (l .befores) e 0 ≡ getD (m .befores) e 0)
+        go : Dec (0 < e) → (getD (l .predecessors) e 0 ≡ getD (m .predecessors) e 0)
             × (getD (l .letters) e 0 ≡ getD (m .letters) e 0)
         go (yes h) =
             let a = x .entry e low .later h in
@@ -159,8 +159,8 @@ module _ (table : Table) (n : ℕ) where
     scratch-same long = record {
       states = lists-same (l .states) (m .states) (long .states) number-same (x .states-end)
           (y .states-end);
-      befores = lists-same (l .befores) (m .befores) (long .befores) (λ e h. back-same e h .0)
-          (x .befores-end) (y .befores-end);
+      predecessors = lists-same (l .predecessors) (m .predecessors) (long .predecessors) (λ e h. back-same e h .0)
+          (x .predecessors-end) (y .predecessors-end);
       letters = lists-same (l .letters) (m .letters) (long .letters) (λ e h. back-same e h .1)
           (x .letters-end) (y .letters-end);
       lost = lists-same (l .lost) (m .lost) (long .lost) lost-same (x .lost-end) (y .lost-end);

@@ -327,7 +327,7 @@ module _ (table : Table) (lent : Lent) (n : ℕ) (fit : Fit table lent n) where
   scratch-is = go (answered table lent)
     where
       same : SameScratch (withEntries table lent) (withEntries table lent)
-      same = record { states = refl; befores = refl; letters = refl; lost = refl }
+      same = record { states = refl; predecessors = refl; letters = refl; lost = refl }
 
       go : {a : Searched} → ComputedAnswer table lent a
           → SameScratch (a .lent) (withEntries table lent)
@@ -335,4 +335,4 @@ module _ (table : Table) (lent : Lent) (n : ℕ) (fit : Fit table lent n) where
       go (is20 p m) = absurd (not-20 m)
       go (is21 f t l) = same
       go (isSound f s) = same
-      go (isTrapped f t l) = record { states = refl; befores = refl; letters = refl; lost = refl }
+      go (isTrapped f t l) = record { states = refl; predecessors = refl; letters = refl; lost = refl }

@@ -69,7 +69,7 @@ pub record TrapRefused (table : Table) (lent : Lent) (a : Searched) : Type 0 whe
 -- Lent memory of the same size, whatever it holds.
 pub record SameLengths (one other : Lent) : Type 0 where
   pub states : length (one .states) ≡ length (other .states)
-  pub befores : length (one .befores) ≡ length (other .befores)
+  pub predecessors : length (one .predecessors) ≡ length (other .predecessors)
   pub letters : length (one .letters) ≡ length (other .letters)
   pub lost : length (one .lost) ≡ length (other .lost)
   pub trace : length (one .trace) ≡ length (other .trace)
@@ -77,7 +77,7 @@ pub record SameLengths (one other : Lent) : Type 0 where
 -- The four scratch lists hold the same.
 pub record SameScratch (one other : Lent) : Type 0 where
   pub states : one .states ≡ other .states
-  pub befores : one .befores ≡ other .befores
+  pub predecessors : one .predecessors ≡ other .predecessors
   pub letters : one .letters ≡ other .letters
   pub lost : one .lost ≡ other .lost
 
@@ -98,11 +98,11 @@ pub record EntryShown (table : Table) (state : ℕ → List Phase) (trace : ℕ 
   pub number : getD (lent .states) e 0 ≡ packed (state e)
   -- "Entry 0 is all waiting, with predecessor 0 and letter 0."
   pub first : e ≡ 0 → (trace e ≡ []) × (state e ≡ startPhases (rowsOf table))
-      × (getD (lent .befores) e 0 ≡ 0) × (getD (lent .letters) e 0 ≡ 0)
+      × (getD (lent .predecessors) e 0 ≡ 0) × (getD (lent .letters) e 0 ≡ 0)
   -- "The predecessor is the state after the entry's earliest trace without its last letter, and the
   -- letter is that last one."
-  pub later : 0 < e → (getD (lent .befores) e 0 < e)
-      × (trace e ≡ trace (getD (lent .befores) e 0) ++ (getD (lent .letters) e 0 ∷ []))
+  pub later : 0 < e → (getD (lent .predecessors) e 0 < e)
+      × (trace e ≡ trace (getD (lent .predecessors) e 0) ++ (getD (lent .letters) e 0 ∷ []))
   pub lost : LostOrZero (systemOf table) (state e) (getD (lent .lost) e 0)
 
 -- "States reached by unbroken traces are entered once each, in the order of their earliest trace:
@@ -117,7 +117,7 @@ pub record ScratchShown (table : Table) (n : ℕ) (lent : Lent) : Type 0 where
   pub order : (e f : ℕ) → e < f → f < n → Earlier (trace e) (trace f)
   -- "Scratch beyond the entries is set to 0, to the end of each list."
   pub states-end : ZeroFrom 0 n (lent .states)
-  pub befores-end : ZeroFrom 0 n (lent .befores)
+  pub predecessors-end : ZeroFrom 0 n (lent .predecessors)
   pub letters-end : ZeroFrom 0 n (lent .letters)
   pub lost-end : ZeroFrom 0 n (lent .lost)
 

@@ -1,0 +1,20 @@
+-- `check_table` is safe: only a report that fits its buffer is taken from it. Assumes nothing but
+-- the contracts of the C functions in `libc`.
+use borrow.Author.Needs.{needs}
+use mathlib.Core.Path.{sym}
+use lib.Seq.{length-take-le}
+use Rattle.test_reports.proofs.check_table.Statement.{statement}
+use Rattle.test_reports.proofs.check_table.Tie as tie
+
+array-share-prefix-report : tie.Need-array-share-prefix-report
+array-share-prefix-report c = search needs
+
+slice-aggregate-compare : tie.Need-slice-aggregate-compare
+slice-aggregate-compare c = sym (length-take-le _ _ (array-share-prefix-report (c .before)))
+
+pub check-table-spec : {M : Type 1} → statement M
+check-table-spec =
+    tie.close (tie.spec
+    (λ c. search needs) (λ c κs. search needs) array-share-prefix-report slice-aggregate-compare
+    (λ c κs. search needs) (λ c. search needs) (λ c κs. search needs) (λ c. search needs)
+    (λ c. search needs))
