@@ -63,7 +63,8 @@ pub fn check(
       lent = lentLists (now (states .exit)) (now (predecessors .exit)) (now (letters .exit))
           (now (lost .exit)) (now (trace .exit));
     }
-        ≡ checkCall (now (bytes .entry)) (lentLists (now (states .entry)) (now (predecessors .entry))
+        ≡ checkCall (now (bytes .entry)) (lentLists (now (states .entry))
+        (now (predecessors .entry))
         (now (letters .entry)) (now (lost .entry)) (now (trace .entry))) (now (out .entry)) ⌝ }
 {
     let read = reader::read(bytes);

@@ -19,7 +19,8 @@ use Rattle.conditions.specs.Condition.{Kind, choice, term, factor, Cond,
 use Rattle.conditions.specs.Condition.{nameOf, place, holdsAt, unknown}
 use Rattle.conditions.specs.Condition.Cond.{oneTerm, or, oneFactor, and, negated, named}
 use Rattle.conditions.specs.Condition.Cond.{never, always, grouped}
-use Rattle.conditions.specs.inner.Reading.{isAt, joined, others, closed, followed, signal, nameAt}
+use Rattle.conditions.specs.inner.Reading.{isAt, joined, others, closed, followed, signal}
+use Rattle.conditions.specs.inner.Reading.{nameAt}
 use Rattle.conditions.specs.inner.Reading.{digitAt, reads}
 use Rattle.conditions.specs.declared.Read.{Read}
 use Rattle.conditions.specs.declared.Read.the-variants.{Set, Nothing}

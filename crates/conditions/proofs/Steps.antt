@@ -10,7 +10,8 @@ use lib.ListN.{length}
 use Rattle.table.specs.declared.Name.{Name}
 use Rattle.conditions.specs.Bytes.{'|', '&', '!', opening}
 use Rattle.conditions.specs.Condition.{Kind, choice, term, factor}
-use Rattle.conditions.specs.inner.Reading.{isAt, joined, others, closed, followed, digitAt, rank}
+use Rattle.conditions.specs.inner.Reading.{isAt, joined, others, closed, followed, digitAt}
+use Rattle.conditions.specs.inner.Reading.{rank}
 use Rattle.conditions.specs.inner.Reading.{reads, Meant, wholly, conditionOf}
 use Rattle.conditions.specs.declared.Read.{Read}
 use Rattle.conditions.specs.declared.Read.the-variants.{Set, Nothing}

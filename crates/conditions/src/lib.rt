@@ -12,7 +12,8 @@ ghost use Rattle.table.specs.Name.{letterRun};
 ghost use Rattle.conditions.specs.Condition.{nameOf, place, Kind};
 ghost use Rattle.conditions.specs.Depth.{one, deep};
 ghost use Rattle.conditions.specs.Judge.{verdictOf, judge};
-ghost use Rattle.conditions.specs.inner.Reading.{isAt, nameAt, digitAt, joined, others, closed};
+ghost use Rattle.conditions.specs.inner.Reading.{isAt, nameAt, digitAt, joined, others};
+ghost use Rattle.conditions.specs.inner.Reading.{closed};
 ghost use Rattle.conditions.specs.inner.Reading.{Meant, wholly, conditionOf};
 
 // What was read: the set of letters, whether a name is unknown, and the place past it; or nothing.

@@ -1,6 +1,6 @@
 -- The promises, in the words of the demands. This file and the specs are all that has to be
--- believed. What each function answers, refused or not, is its contract in src/: one equation with a
--- definition of the specs; here stands what follows of those definitions. More is promised, by
+-- believed. What each function answers, refused or not, is its contract in src/: one equation with
+-- a definition of the specs; here stands what follows of those definitions. More is promised, by
 -- subject, in `Reading`, `Watching`, `Searching`, `Reporting` and `Cases`. Assumes nothing.
 use Prim.Native.Nat.{ℕ, suc, _<_, _≤_}
 use mathlib.Core.Bool.{true}
@@ -49,8 +49,8 @@ pub accepts-exactly : (bytes : List ℕ) (table : Table)
     → (readAnswer bytes ≡ accepted table) ↔ IsFile bytes table
 accepts-exactly bytes table = (Reading.accepted-file bytes table, Reading.file-accepted bytes table)
 
--- "and after every trace of ticks each row is in the phase that the step rules give, broken or not":
--- from the start, and from any record that number 18 lets by.
+-- "and after every trace of ticks each row is in the phase that the step rules give, broken or
+-- not": from the start, and from any record that number 18 lets by.
 pub rows-follow : (s : ℕ) (rows : List Row) (watch : Watch) (w : List ℕ) → Accepted s rows watch
     → AllBelow (letters s) w → (i : ℕ) → i < length rows
     → getD (phasesOf (recordAfter s rows watch w)) i Waiting
@@ -76,8 +76,8 @@ module _ (table : Table) (lent : Lent) where
         (Searching.refused-20 table lent passes many),
   )
 
--- Demand 3: "For any accepted table whose states reached by unbroken traces fit the lent scratch", n
--- of them,
+-- Demand 3: "For any accepted table whose states reached by unbroken traces fit the lent scratch",
+-- n of them,
 module _ (table : Table) (lent : Lent) (n : ℕ) (fit : Fit table lent n) where
   -- "trapped exactly when some unbroken trace has a number of ticks after which every extension is
   -- broken": it is shown, or refused with 21;
@@ -150,7 +150,8 @@ module _ (one other : Table) (lent held : Lent) (n : ℕ) (fit : Fit one lent n)
       ≡ take (searchAnswer one lent .found .length) (searchAnswer other held .lent .trace)
   rows-show = Alike.rows-show one other lent held n fit passes signals rows room short
 
--- Point 5, the report: from the bytes of any file to the bytes that are printed, in any lent memory.
+-- Point 5, the report: from the bytes of any file to the bytes that are printed, in any lent
+-- memory.
 module _ (bytes : List ℕ) (lent : Lent) where
   -- "A refused one prints the first line and `refused 13 line 3`, with its own number and line";
   pub prints-refused : (number line : ℕ) → readAnswer bytes ≡ refusedFile number line

@@ -42,7 +42,8 @@ module _ (table : Table) (lent : Lent) where
       let own = entered n fit in
       let a = e .lengths in
       let b = own .lengths in
-      lent-same held (withEntries table lent) (scratch-same table n (e .scratch) (own .scratch) (record {
+      lent-same held (withEntries table lent) (scratch-same table n (e .scratch) (own .scratch)
+      (record {
         states = sym (a .states) ∙ b .states;
         predecessors = sym (a .predecessors) ∙ b .predecessors;
         letters = sym (a .letters) ∙ b .letters;

@@ -69,7 +69,8 @@ module _ (table : Table) (n : ℕ) where
         let one = x .order e g k q in
         let two = y .order e f h p in
         let a : Earlier (x .trace e) (y .trace e) = rw (same-trace x y g e q low is′) at one in
-        let b : Earlier (y .trace e) (x .trace e) = rw (← same-trace x y e f low p (sym is)) at two in
+        let b : Earlier (y .trace e) (x .trace e) = rw (← same-trace x y e f low p (sym is)) at two
+        in
         earlier-irrefl (x .trace e) (earlier-trans a b)
 
     place : x .state e ≡ y .state e
@@ -159,7 +160,8 @@ module _ (table : Table) (n : ℕ) where
     scratch-same long = record {
       states = lists-same (l .states) (m .states) (long .states) number-same (x .states-end)
           (y .states-end);
-      predecessors = lists-same (l .predecessors) (m .predecessors) (long .predecessors) (λ e h. back-same e h .0)
+      predecessors = lists-same (l .predecessors) (m .predecessors) (long .predecessors)
+          (λ e h. back-same e h .0)
           (x .predecessors-end) (y .predecessors-end);
       letters = lists-same (l .letters) (m .letters) (long .letters) (λ e h. back-same e h .1)
           (x .letters-end) (y .letters-end);

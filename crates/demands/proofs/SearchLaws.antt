@@ -197,7 +197,8 @@ module _ (table : Table) (lent : Lent) where
       fit-most : (n : ℕ) → Fit table lent n → n ≤ mostStates (rowsOf table)
       fit-most n f = count-bounded (table .signals) (rowsOf table) n (f .count .many)
 
-      go : {a : Searched} → ComputedAnswer table lent a → a .found .count ≤ mostStates (rowsOf table)
+      go : {a : Searched} → ComputedAnswer table lent a → a .found .count ≤ mostStates
+          (rowsOf table)
       go (is17 p) = omega arith
       go (is20 p m) = omega arith
       go (is21 f t l) = omega arith

@@ -104,8 +104,8 @@ scratch-only table n one other lengths x y = ScratchLaws.scratch-same table n x 
 
 -- "For any accepted table whose states reached by unbroken traces fit the lent scratch", n of them.
 module _ (table : Table) (lent : Lent) (n : ℕ) (fit : Fit table lent n) where
-  -- Sound over states, and the whole answer: "under sound the first two are 0", and the trace buffer
-  -- "is unchanged". What it says of traces is `sound-exactly`.
+  -- Sound over states, and the whole answer: "under sound the first two are 0", and the trace
+  -- buffer "is unchanged". What it says of traces is `sound-exactly`.
   pub says-sound : searchAnswer table lent .found .verdict ≡ SaysSound → Sound (systemOf table)
   says-sound = Laws.says-sound table lent
 
@@ -134,7 +134,8 @@ module _ (table : Table) (lent : Lent) (n : ℕ) (fit : Fit table lent n) where
   scratch-columns = Laws.scratch-is table lent n fit
 
   pub scratch-shown : ScratchShown table n (searchAnswer table lent .lent)
-  scratch-shown = Entries.scratch-shown table lent n fit (searchAnswer table lent .lent) scratch-columns
+  scratch-shown = Entries.scratch-shown table lent n fit (searchAnswer table lent .lent)
+      scratch-columns
 
   -- "If any entry is doomed the verdict is trapped with the earliest doomed entry's trace."
   pub earliest-doomed : (w : List ℕ) (k : ℕ) → Trapped (systemOf table) w k

@@ -115,7 +115,8 @@ module _ (table : Table) (lent : Lent) (passes : tableFits table ≡ true)
       }
   unfolding starred
   report-trapped is room =
-      table-is report (1 ∷ []) 1 2 (every-at right starred 14 (after P [] 0) starred-right (omega arith))
+      table-is report (1 ∷ []) 1 2 (every-at right starred 14 (after P [] 0) starred-right
+      (omega arith))
       table lent passes signals is room short
 
   -- "One row `a,a,a,0,0,0,3,0,0,0,0,0`: trapped, trace 1, lost 3, four states."
@@ -126,5 +127,6 @@ module _ (table : Table) (lent : Lent) (passes : tableFits table ≡ true)
       }
   unfolding starred
   delayed-trapped is room =
-      table-is delayed (1 ∷ []) 3 4 (every-at right starred 15 (after P [] 0) starred-right (omega arith))
+      table-is delayed (1 ∷ []) 3 4 (every-at right starred 15 (after P [] 0) starred-right
+      (omega arith))
       table lent passes signals is room short

@@ -134,7 +134,7 @@ fn show(name: &[u8], table: Table, a: usize, b: usize, c: usize, d: usize, t: us
     print_found(found);
     print_trace(found.length, trace, t);
     print_u64s(b"\n  states", states, a);
-    print_u16s(b"\n  predecessors", predecessors, b);
+    print_u16s(b"\n  befores", predecessors, b);
     print_u8s(b"\n  letters", letters, c);
     print_u16s(b"\n  lost", lost, d);
     print_u8s(b"\n  buffer", trace, t);

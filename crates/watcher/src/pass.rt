@@ -1,5 +1,5 @@
-// One pass over the rows of a table: what it has found so far, by value. specs/inner/Pass.antt follows
-// this code; what is right is said in specs/Answer.antt.
+// One pass over the rows of a table: what it has found so far, by value. specs/inner/Pass.antt
+// follows this code; what is right is said in specs/Answer.antt.
 use crate::Slot;
 use crate::Ticked;
 use crate::Watch;
