@@ -4,13 +4,15 @@ use borrow.Author.Needs.{needs}
 use native.Mathlib.Omega.{arith}
 use mathlib.Core.Path.{sym}
 use lib.Seq.{length-take-le}
+use Rattle.input.proofs.Pieces.{within}
 use Rattle.checktable.proofs.main.Statement.{statement}
 use Rattle.checktable.proofs.main.Tie as tie
 
 array-share-prefix-file : tie.Need-array-share-prefix-file
 array-share-prefix-file c =
-    let read = c .before .before .before .before .read-input in
-    omega (arith, rw (c .before .input .given .1) at (read .ensures), read .kept .0)
+    let read = c .before .before .before .before .read-all in
+    let few = within (omega arith) (rw (c .before .input .given .1) at (read .ensures)) in
+    omega (arith, few, read .kept .1 .0)
 
 slice-aggregate-print-report : tie.Need-slice-aggregate-print-report
 slice-aggregate-print-report c = sym (length-take-le _ _ (array-share-prefix-file (c .before)))

@@ -1,0 +1,2 @@
+-- Laws on what is read.
+pub mod Pieces

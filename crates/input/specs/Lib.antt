@@ -1,0 +1,2 @@
+-- Reading an input.
+pub mod Input
