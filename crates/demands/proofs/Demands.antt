@@ -10,7 +10,7 @@ use mathlib.Core.Path.{_≡_, ap}
 use lib.ListN.{length, getD, take}
 use Rattle.letters.specs.Letter.{letters}
 use Rattle.table.specs.Row.{noRow}
-use Rattle.table.specs.Valid.{tableFits, rowsOf}
+use Rattle.table.specs.Valid.{tableFits, rulesFit, rowsOf}
 use Rattle.table.specs.declared.Row.{Row}
 use Rattle.table.specs.declared.Table.{Table}
 use Rattle.traces.specs.Trace.{AllBelow, run}
@@ -18,7 +18,7 @@ use Rattle.traces.specs.Verdict.{ReachedMany, Trapped}
 use Rattle.step.specs.declared.Phase.the-variants.{Waiting}
 use Rattle.step.specs.Tick.{rowSystem}
 use Rattle.watcher.specs.declared.Watch.{Watch}
-use Rattle.watcher.specs.Watch.{phasesOf}
+use Rattle.watcher.specs.Watch.{phasesOf, startWatch}
 use Rattle.table.specs.Refusal.{numberOf}
 use Rattle.text.specs.Bounds.{decimal}
 use Rattle.text.specs.Lines.{ended}
@@ -36,6 +36,7 @@ use Rattle.report.specs.Report.{heading, refusedLine, sizeLines, soundLine, tra
 use Rattle.report.specs.Report.{lostWord}
 use Rattle.checker.specs.Answer.{Checked, sizeOf, checkAnswer}
 use Rattle.demands.proofs.Reading as Reading
+use Rattle.demands.proofs.Watching as Watching
 use Rattle.demands.proofs.Searching as Searching
 use Rattle.demands.proofs.Reporting as Reporting
 use Rattle.demands.proofs.WatchLaws as WatchLaws
@@ -50,12 +51,19 @@ pub accepts-exactly : (bytes : List ℕ) (table : Table)
 accepts-exactly bytes table = (Reading.accepted-file bytes table, Reading.file-accepted bytes table)
 
 -- "and after every trace of ticks each row is in the phase that the step rules give, broken or
--- not": from the start, and from any record that number 18 lets by.
+-- not": from any record that number 18 lets by;
 pub rows-follow : (s : ℕ) (rows : List Row) (watch : Watch) (w : List ℕ) → Accepted s rows watch
     → AllBelow (letters s) w → (i : ℕ) → i < length rows
     → getD (phasesOf (recordAfter s rows watch w)) i Waiting
     ≡ run (rowSystem s (getD rows i noRow)) (getD (phasesOf watch) i Waiting) w
 rows-follow = WatchLaws.row-follows
+
+-- and so from the start: "All start waiting."
+pub from-start : (s : ℕ) (rows : List Row) (w : List ℕ) → rulesFit s rows ≡ true
+    → AllBelow (letters s) w → (i : ℕ) → i < length rows
+    → getD (phasesOf (recordAfter s rows startWatch w)) i Waiting
+    ≡ run (rowSystem s (getD rows i noRow)) Waiting w
+from-start = Watching.from-start
 
 -- Demand 1, for the search: any table value and any lent memory have one of the five answers of
 -- `RightAnswer`, and what it says is so; and no other answer says what is so.

@@ -9,6 +9,7 @@ pub mod Searching
 pub mod Reporting
 pub mod Cases
 pub mod WatchLaws
+pub mod WatchCalls
 pub mod Words
 pub mod SearchLaws
 pub mod Entries

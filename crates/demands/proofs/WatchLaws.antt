@@ -111,18 +111,29 @@ start-accepted s rows h = record {
   state = rw phases-watch (start-fits rows mostRows (rulesFit-count s rows h .1));
 }
 
+-- Each row of it waits.
+waits-at : (n i : ℕ) → getD (replicate n Waiting) i Waiting ≡ Waiting
+waits-at zero i = refl
+waits-at (suc n) zero = refl
+waits-at (suc n) (suc i) = waits-at n i
+
+pub start-phase : (i : ℕ) → getD (phasesOf startWatch) i Waiting ≡ Waiting
+start-phase i =
+    ap (λ (l : List Phase). getD l i Waiting) (phases-watch (replicate mostRows Waiting))
+    ∙ waits-at mostRows i
+
 -- The number, the line and the record of an answer.
-number-is : (n : ℕ) (moved watch : Watch) → numberOf (answered n moved watch .outcome) ≡ n
+pub number-is : (n : ℕ) (moved watch : Watch) → numberOf (answered n moved watch .outcome) ≡ n
 unfolding answered
 number-is zero moved watch = refl
 number-is (suc n) moved watch = refl
 
-line-is : (n : ℕ) (moved watch : Watch) → lineOf (answered n moved watch .outcome) ≡ 0
+pub line-is : (n : ℕ) (moved watch : Watch) → lineOf (answered n moved watch .outcome) ≡ 0
 unfolding answered
 line-is zero moved watch = refl
 line-is (suc n) moved watch = refl
 
-kept-is : (n k : ℕ) (moved watch : Watch) → n ≡ suc k → answered n moved watch .watch ≡ watch
+pub kept-is : (n k : ℕ) (moved watch : Watch) → n ≡ suc k → answered n moved watch .watch ≡ watch
 unfolding answered
 kept-is zero k moved watch e = absurd (omega arith)
 kept-is (suc n) k moved watch e = refl

@@ -5,27 +5,32 @@ use mathlib.Core.List.{List, map}
 use mathlib.Core.Path.{_≡_, sym, ap, _∙_}
 use lib.ListN.{length, getD}
 use Rattle.letters.specs.Letter.{letters, letterFits}
+use Rattle.letters.specs.Lists.{every}
 use Rattle.table.specs.Row.{noRow}
-use Rattle.table.specs.Valid.{rulesFit}
+use Rattle.table.specs.Valid.{rulesFit, tableFits, rowsOf}
 use Rattle.table.specs.declared.Row.{Row}
+use Rattle.table.specs.declared.Table.{Table}
 use Rattle.table.proofs.Laws.{rulesFit-rows}
 use Rattle.traces.specs.Trace.{AllBelow, run}
+use Rattle.step.specs.declared.Phase.{Phase}
 use Rattle.step.specs.declared.Phase.the-variants.{Waiting}
 use Rattle.step.specs.Phase.{codeOf, phaseOf, isBroken}
 use Rattle.step.specs.Tick.{someBroken, rowSystem, tableSystem}
 use Rattle.step.specs.Fits.{phasesFit, codesFit}
-use Rattle.step.proofs.States.{codes-fit}
+use Rattle.step.proofs.States.{codes-fit, codes-phases}
 use Rattle.step.proofs.Systems.{row-lawful}
 use Rattle.traces.proofs.Runs.{broken-run}
 use Rattle.table.specs.declared.Outcome.the-variants.{Accepted as Taken}
 use Rattle.watcher.specs.declared.Ticked.{Ticked}
 use Rattle.watcher.specs.declared.Watch.{Watch}
 use Rattle.watcher.specs.Watch.{phasesOf, watchOf, startWatch}
-use Rattle.watcher.specs.Answer.{firstNumber, tickAnswer}
+use Rattle.watcher.specs.Answer.{firstNumber, tickAnswer, tableTick, tablePlay}
 use Rattle.table.specs.Refusal.{numberOf, lineOf}
-use Rattle.watcher.proofs.Records.{watch-phases}
+use Rattle.watcher.proofs.Records.{watch-phases, phases-watch}
 use Rattle.demands.specs.Watching.{recordAfter, Accepted}
 use Rattle.demands.proofs.WatchLaws as Laws
+use Rattle.demands.proofs.WatchLaws.{start-phase}
+use Rattle.demands.proofs.WatchCalls as Calls
 
 -- Numbers 17 and 18 let the record by that the watcher starts with.
 pub start-accepted : (s : ℕ) (rows : List Row) → rulesFit s rows ≡ true → Accepted s rows startWatch
@@ -64,6 +69,25 @@ module _ (s : ℕ) (rows : List Row) (watch : Watch) (ok : Accepted s rows watch
   codes-keep = codes-fit s rows (phasesOf (recordAfter s rows watch w))
       (rulesFit-rows s rows (ok .rules)) (stays-accepted .state)
 
+-- Demand 2 in its plain form: "All start waiting", and after every trace from the start each row is
+-- in the phase that the step rules give from waiting.
+pub from-start : (s : ℕ) (rows : List Row) (w : List ℕ) → rulesFit s rows ≡ true
+    → AllBelow (letters s) w → (i : ℕ) → i < length rows
+    → getD (phasesOf (recordAfter s rows startWatch w)) i Waiting
+    ≡ run (rowSystem s (getD rows i noRow)) Waiting w
+from-start s rows w rules h i low =
+    Laws.row-follows s rows startWatch w (start-accepted s rows rules) h i low
+    ∙ ap (λ (p : Phase). run (rowSystem s (getD rows i noRow)) p w) (start-phase i)
+
+-- Number 18 "in codes": of codes of one byte, the record that they give passes exactly when the
+-- codes do.
+pub codes-accepted : (s : ℕ) (rows : List Row) (codes : List ℕ) → rulesFit s rows ≡ true
+    → AllBelow 256 codes
+    → phasesFit rows (phasesOf (watchOf (map phaseOf codes))) ≡ codesFit rows codes
+codes-accepted s rows codes rules low =
+    ap (phasesFit rows) (phases-watch (map phaseOf codes))
+    ∙ sym (codes-phases s rows codes (rulesFit-rows s rows rules) low)
+
 -- A record's codes determine its phases.
 pub codes-determine : (s : ℕ) (rows : List Row) (one other : Watch) → Accepted s rows one
     → Accepted s rows other
@@ -86,3 +110,42 @@ module _ (s : ℕ) (rows : List Row) (watch : Watch) (l : ℕ) where
   pub refused-keeps : (n : ℕ) → numberOf (tickAnswer s rows watch l .outcome) ≡ suc n
       → tickAnswer s rows watch l .watch ≡ watch
   refused-keeps = Laws.answer-kept s rows watch l
+
+-- The same of the calls with a table value: of one that 17 lets by a tick is that of its rows, and a
+-- trace that is played gives the record after one call for each letter.
+module _ (table : Table) (watch : Watch) where
+  pub tick-as-rows : (l : ℕ) → tableFits table ≡ true
+      → tableTick table watch l ≡ tickAnswer (table .signals) (rowsOf table) watch l
+  tick-as-rows = Calls.tick-as-rows table watch
+
+  pub played : (w : List ℕ) → tableFits table ≡ true
+      → phasesFit (rowsOf table) (phasesOf watch) ≡ true → AllBelow (letters (table .signals)) w
+      → tablePlay table watch w
+      ≡ record { outcome = Taken; watch = recordAfter (table .signals) (rowsOf table) watch w }
+  played = Calls.played table watch
+
+  module _ (l : ℕ) where
+    pub tick-number : numberOf (tableTick table watch l .outcome)
+        ≡ firstNumber (tableFits table) (phasesFit (rowsOf table) (phasesOf watch))
+        (letterFits (table .signals) l)
+    tick-number = Calls.tick-number table watch l
+
+    pub tick-line : lineOf (tableTick table watch l .outcome) ≡ 0
+    tick-line = Calls.tick-line table watch l
+
+    pub tick-kept : (n : ℕ) → numberOf (tableTick table watch l .outcome) ≡ suc n
+        → tableTick table watch l .watch ≡ watch
+    tick-kept = Calls.tick-kept table watch l
+
+  module _ (w : List ℕ) where
+    pub play-number : numberOf (tablePlay table watch w .outcome)
+        ≡ firstNumber (tableFits table) (phasesFit (rowsOf table) (phasesOf watch))
+        (every (letterFits (table .signals)) w)
+    play-number = Calls.play-number table watch w
+
+    pub play-line : lineOf (tablePlay table watch w .outcome) ≡ 0
+    play-line = Calls.play-line table watch w
+
+    pub play-kept : (n : ℕ) → numberOf (tablePlay table watch w .outcome) ≡ suc n
+        → tablePlay table watch w .watch ≡ watch
+    play-kept = Calls.play-kept table watch w
