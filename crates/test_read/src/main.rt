@@ -96,6 +96,18 @@ fn print_table(table: Table) {
     print_rows(rows, table.count);
 }
 
+// Whether everything in a table is 0, the places that are not used included.
+fn print_emptiness(table: Table) {
+    let names = table.names;
+    let rows = table.rows;
+    let none = (table.signals == 0) & (table.count == 0);
+    if none & table::names::rest_unused(names, 0) & table::rows::rest_unused(rows, 0) {
+        print(b" table empty\n");
+    } else {
+        print(b" table not empty\n");
+    }
+}
+
 fn show(bytes: &[u8]) {
     let read = reader::read(bytes);
     let outcome = read.outcome;
@@ -105,9 +117,10 @@ fn show(bytes: &[u8]) {
             print_table(table);
         }
         Outcome::Refused(refusal) => {
+            let table = read.table;
             print_byte(b"refused ", refusal.number);
             print_byte(b" line ", refusal.line);
-            print(b"\n");
+            print_emptiness(table);
         }
     }
 }
