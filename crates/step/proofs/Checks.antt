@@ -7,30 +7,30 @@ use Rattle.table.specs.Row.{holds, tc, tee, ase, ac, aee}
 use Rattle.table.specs.declared.Row.{Row}
 use Rattle.step.specs.declared.Phase.{Phase}
 use Rattle.step.specs.declared.Phase.the-variants.{Waiting, Trigger, Delay, Action, Broken}
-use Rattle.step.specs.declared.Checked.{Checked}
-use Rattle.step.specs.declared.Checked.the-variants.{Over, On, Out}
+use Rattle.step.specs.declared.Check.{Check}
+use Rattle.step.specs.declared.Check.the-variants.{Done, Continue, Fail}
 use Rattle.step.specs.Step.{actionCheck, delayCheck, triggerCheck}
 use Rattle.step.specs.inner.Check.{checkOf}
 
--- What each check makes of the shared one; `over` is the phase if this one is over.
-unfoldable pub actionEnds : Checked → Phase
-actionEnds Over = Waiting
-actionEnds (On n) = Action n
-actionEnds Out = Broken
+-- What each check makes of the shared one; `next` is what follows a phase that is done.
+unfoldable pub actionEnds : Check → Phase
+actionEnds Done = Waiting
+actionEnds (Continue n) = Action n
+actionEnds Fail = Broken
 
-unfoldable pub delayEnds : Phase → Checked → Phase
-delayEnds over Over = over
-delayEnds over (On n) = Delay n
-delayEnds over Out = Broken
+unfoldable pub delayEnds : Phase → Check → Phase
+delayEnds next Done = next
+delayEnds next (Continue n) = Delay n
+delayEnds next Fail = Broken
 
-unfoldable pub triggerEnds : Phase → Checked → Phase
-triggerEnds over Over = over
-triggerEnds over (On n) = Trigger n
-triggerEnds over Out = Waiting
+unfoldable pub triggerEnds : Phase → Check → Phase
+triggerEnds next Done = next
+triggerEnds next (Continue n) = Trigger n
+triggerEnds next Fail = Waiting
 
 -- A choice of phases is what a check's ending gives of the choice of endings.
-ends : (f : Checked → Phase) (a b : Bool) (n : ℕ)
-    → cond a (f Over) (cond b (f (On n)) (f Out)) ≡ f (cond a Over (cond b (On n) Out))
+ends : (f : Check → Phase) (a b : Bool) (n : ℕ)
+    → cond a (f Done) (cond b (f (Continue n)) (f Fail)) ≡ f (cond a Done (cond b (Continue n) Fail))
 ends f true b n = refl
 ends f false true n = refl
 ends f false false n = refl

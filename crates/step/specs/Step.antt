@@ -40,5 +40,8 @@ stepRow row letter (Action a) = actionCheck row letter a
 stepRow row letter Broken = Broken
 
 -- All that a row step gives.
+abbrev pub steppedTo : Phase → Stepped
+steppedTo phase = record { phase = phase }
+
 abbrev pub stepped : Row → ℕ → Phase → Stepped
-stepped row letter phase = record { phase = stepRow row letter phase }
+stepped row letter phase = steppedTo (stepRow row letter phase)

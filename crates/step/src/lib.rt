@@ -9,7 +9,9 @@ use table::TEE;
 use table::TSE;
 ghost use mathlib.Core.Path.{_≡_};
 ghost use Rattle.step.specs.Phase.{codeOf, phaseOf};
-ghost use Rattle.step.specs.Step.{actionCheck, delayCheck, triggerCheck, stepped};
+ghost use Rattle.step.specs.declared.Phase.the-variants.{Waiting};
+ghost use Rattle.step.specs.Step.{actionCheck, delayCheck, triggerCheck};
+ghost use Rattle.step.specs.Step.{steppedTo, stepped};
 ghost use Rattle.step.specs.inner.Check.{checkOf};
 ghost use Rattle.step.specs.Fits.{ticksFit, phaseFits, isWaiting};
 
@@ -27,64 +29,80 @@ pub struct Stepped {
     pub phase: Phase,
 }
 
-// How the check of a phase ends: the phase is over, goes on with so many elapsed ticks, or cannot
-// go on.
-pub enum Checked {
-    Over,
-    On(u8),
-    Out,
+// How the check of a phase ends: the phase is done, continues with so many elapsed ticks, or fails.
+pub enum Check {
+    Done,
+    Continue(u8),
+    Fail,
 }
 
 // The check of a phase with t elapsed ticks: `end` and `hold` say whether its two conditions hold
 // at the letter.
-fn check(end: bool, hold: bool, least: u8, most: u8, t: u8) -> Checked
+fn check_of(end: bool, hold: bool, least: u8, most: u8, t: u8) -> Check
     ensures { λ r. ⌜ r ≡ checkOf end hold least most t ⌝ }
 {
     if end {
         if least <= t {
-            return Checked::Over;
+            return Check::Done;
         }
     }
     if hold {
         if t < most {
-            return Checked::On(t + 1);
+            return Check::Continue(t + 1);
         }
     }
-    Checked::Out
+    Check::Fail
 }
 
-fn action_check(row: Row, letter: u8, a: u8) -> Phase
-    ensures { λ r. ⌜ r ≡ actionCheck row letter a ⌝ }
+fn stepped_to(phase: Phase) -> Stepped
+    ensures { λ r. ⌜ r ≡ steppedTo phase ⌝ }
+{
+    Stepped { phase }
+}
+
+fn action_check(row: Row, letter: u8, a: u8) -> Stepped
+    ensures { λ r. ⌜ r ≡ steppedTo (actionCheck row letter a) ⌝ }
 {
     let end = letters::contains(row.sets[AEE], letter);
     let hold = letters::contains(row.sets[AC], letter);
-    match check(end, hold, row.amin, row.amax, a) {
-        Checked::Over => Phase::Waiting,
-        Checked::On(n) => Phase::Action(n),
-        Checked::Out => Phase::Broken,
+    match check_of(end, hold, row.amin, row.amax, a) {
+        Check::Done => stepped_to(Phase::Waiting),
+        Check::Continue(n) => stepped_to(Phase::Action(n)),
+        Check::Fail => stepped_to(Phase::Broken),
     }
 }
 
-fn delay_check(row: Row, letter: u8, d: u8) -> Phase
-    ensures { λ r. ⌜ r ≡ delayCheck row letter d ⌝ }
+fn delay_check(row: Row, letter: u8, d: u8) -> Stepped
+    ensures { λ r. ⌜ r ≡ steppedTo (delayCheck row letter d) ⌝ }
 {
     let end = letters::contains(row.sets[ASE], letter);
-    match check(end, true, row.lmin, row.lmax, d) {
-        Checked::Over => action_check(row, letter, 0),
-        Checked::On(n) => Phase::Delay(n),
-        Checked::Out => Phase::Broken,
+    match check_of(end, true, row.lmin, row.lmax, d) {
+        Check::Done => action_check(row, letter, 0),
+        Check::Continue(n) => stepped_to(Phase::Delay(n)),
+        Check::Fail => stepped_to(Phase::Broken),
     }
 }
 
-fn trigger_check(row: Row, letter: u8, t: u8) -> Phase
-    ensures { λ r. ⌜ r ≡ triggerCheck row letter t ⌝ }
+fn trigger_check(row: Row, letter: u8, t: u8) -> Stepped
+    ensures { λ r. ⌜ r ≡ steppedTo (triggerCheck row letter t) ⌝ }
 {
     let end = letters::contains(row.sets[TEE], letter);
     let hold = letters::contains(row.sets[TC], letter);
-    match check(end, hold, row.tmin, row.tmax, t) {
-        Checked::Over => delay_check(row, letter, 0),
-        Checked::On(n) => Phase::Trigger(n),
-        Checked::Out => Phase::Waiting,
+    match check_of(end, hold, row.tmin, row.tmax, t) {
+        Check::Done => delay_check(row, letter, 0),
+        Check::Continue(n) => stepped_to(Phase::Trigger(n)),
+        Check::Fail => stepped_to(Phase::Waiting),
+    }
+}
+
+// What one letter does to a row that waits.
+fn start_check(row: Row, letter: u8) -> Stepped
+    ensures { λ r. ⌜ r ≡ stepped row letter Waiting ⌝ }
+{
+    if letters::contains(row.sets[TSE], letter) {
+        trigger_check(row, letter, 0)
+    } else {
+        stepped_to(Phase::Waiting)
     }
 }
 
@@ -93,31 +111,11 @@ pub fn step_row(row: Row, letter: u8, phase: Phase) -> Stepped
     ensures { λ r. ⌜ r ≡ stepped row letter phase ⌝ }
 {
     match phase {
-        Phase::Waiting => {
-            if letters::contains(row.sets[TSE], letter) {
-                let p = trigger_check(row, letter, 0);
-                Stepped { phase: p }
-            } else {
-                Stepped {
-                    phase: Phase::Waiting,
-                }
-            }
-        }
-        Phase::Trigger(t) => {
-            let p = trigger_check(row, letter, t);
-            Stepped { phase: p }
-        }
-        Phase::Delay(d) => {
-            let p = delay_check(row, letter, d);
-            Stepped { phase: p }
-        }
-        Phase::Action(a) => {
-            let p = action_check(row, letter, a);
-            Stepped { phase: p }
-        }
-        Phase::Broken => Stepped {
-            phase: Phase::Broken,
-        },
+        Phase::Waiting => start_check(row, letter),
+        Phase::Trigger(t) => trigger_check(row, letter, t),
+        Phase::Delay(d) => delay_check(row, letter, d),
+        Phase::Action(a) => action_check(row, letter, a),
+        Phase::Broken => stepped_to(Phase::Broken),
     }
 }
 

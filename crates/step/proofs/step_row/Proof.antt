@@ -6,43 +6,27 @@ use Rattle.step.proofs.step_row.Tie as tie
 
 returns : tie.Need-returns
 unfolding stepRow
-returns c = rw (
-  c .before .before .before .before .enum-told .given .1,
-  ← c .before .before
-      .contains .ensures,
-  c .before .if1 .taken,
-  c .trigger-check .ensures,
-)
+returns c = rw (c .before .enum-told .given .1) (c .start-check .ensures)
 
 returns-2 : tie.Need-returns-2
 unfolding stepRow
-returns-2 c = rw (
-  c .before .before .before .enum-told .given .1,
-  ← c .before .contains .ensures,
-  c
-      .if1 .left,
-)
+returns-2 c = rw (c .before .before .phase .given .1) (c .trigger-check .ensures)
 
 returns-3 : tie.Need-returns-3
 unfolding stepRow
-returns-3 c = rw (c .before .before .phase .given .1, c .trigger-check2 .ensures)
+returns-3 c = rw (c .before .before .phase2 .given .1) (c .delay-check .ensures)
 
 returns-4 : tie.Need-returns-4
 unfolding stepRow
-returns-4 c = rw (c .before .before .phase2 .given .1, c .delay-check .ensures)
+returns-4 c = rw (c .before .before .phase3 .given .1) (c .action-check .ensures)
 
 returns-5 : tie.Need-returns-5
 unfolding stepRow
-returns-5 c = rw (c .before .before .phase3 .given .1, c .action-check .ensures)
-
-returns-6 : tie.Need-returns-6
-unfolding stepRow
-returns-6 c = rw (c .enum-told2 .given .1)
+returns-5 c = rw (c .before .enum-told2 .given .1) (c .stepped-to .ensures)
 
 pub step-row-spec : {M : Type 1} → statement M
 step-row-spec =
     tie.close (tie.spec
-    (λ c. search needs) (λ c. search needs) (λ c κs. search needs) (λ c κs. search needs)
     (λ c. search needs) (λ c κs. search needs) (λ c. search needs) (λ c κs. search needs)
-    (λ c. search needs) (λ c κs. search needs) (λ c. search needs) returns returns-2 returns-3
-    returns-4 returns-5 returns-6)
+    (λ c. search needs) (λ c κs. search needs) (λ c. search needs) (λ c κs. search needs)
+    (λ c. search needs) (λ c κs. search needs) returns returns-2 returns-3 returns-4 returns-5)

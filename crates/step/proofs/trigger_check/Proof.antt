@@ -7,12 +7,12 @@ use Rattle.step.proofs.trigger_check.Statement.{statement}
 use Rattle.step.proofs.trigger_check.Tie as tie
 
 -- the definition, from what the callees ensure
-checked : (c : tie.After-check) → let a = c .before .before .before .before .before .args in
+checked : (c : tie.After-check-of) → let a = c .before .before .before .before .before .args in
     triggerCheck (a .t1) (a .letter) (a .t)
-    ≡ triggerEnds (delayCheck (a .t1) (a .letter) 0) (c .check .result)
+    ≡ triggerEnds (delayCheck (a .t1) (a .letter) 0) (c .check-of .result)
 checked c =
     trigger-ends _ _ _ ∙ simp (
-      c .check .ensures,
+      c .check-of .ensures,
       c .before .contains2 .ensures,
       c .before .before
           .before .contains .ensures,
@@ -25,15 +25,17 @@ returns c = rw (checked (c .before .before .before), c .before .enum-told .given
 
 returns-2 : tie.Need-returns-2
 unfolding triggerEnds
-returns-2 c = rw (checked (c .before .before .before), c .before .n .given .1)
+returns-2 c = rw (checked (c .before .before .before .before), c .before .before .n .given .1)
+    (c .stepped-to .ensures)
 
 returns-3 : tie.Need-returns-3
 unfolding triggerEnds
-returns-3 c = rw (checked (c .before .before), c .enum-told2 .given .1)
+returns-3 c = rw (checked (c .before .before .before), c .before .enum-told2 .given .1)
+    (c .stepped-to2 .ensures)
 
 pub trigger-check-spec : {M : Type 1} → statement M
 trigger-check-spec =
     tie.close (tie.spec
     (λ c. search needs) (λ c κs. search needs) (λ c. search needs) (λ c κs. search needs)
     (λ c κs. search needs) (λ c. search needs) (λ c κs. search needs) (λ c. search needs)
-    (λ c. search needs) returns returns-2 returns-3)
+    (λ c κs. search needs) (λ c. search needs) (λ c κs. search needs) returns returns-2 returns-3)

@@ -2,9 +2,9 @@
 use Prim.Native.Nat.{ℕ, _+_}
 use mathlib.Core.Bool.{Bool, _&&_, cond}
 use lib.Dec.{leb, ltb}
-use Rattle.step.specs.declared.Checked.{Checked}
-use Rattle.step.specs.declared.Checked.the-variants.{Over, On, Out}
+use Rattle.step.specs.declared.Check.{Check}
+use Rattle.step.specs.declared.Check.the-variants.{Done, Continue, Fail}
 
-abbrev pub checkOf : Bool → Bool → ℕ → ℕ → ℕ → Checked
+abbrev pub checkOf : Bool → Bool → ℕ → ℕ → ℕ → Check
 checkOf end hold least most t =
-    cond (end && leb least t) Over (cond (hold && ltb t most) (On (t + 1)) Out)
+    cond (end && leb least t) Done (cond (hold && ltb t most) (Continue (t + 1)) Fail)
