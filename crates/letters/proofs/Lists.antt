@@ -1,16 +1,16 @@
--- Tests over lists: what a loop that counts from the front needs, and what passing says of each
--- element. Assumes nothing.
+-- Tests of numbers and of lists: what a loop that counts from the front needs, and what passing
+-- says of each element. Assumes nothing.
 use Prim.Native.Nat.{ℕ, zero, suc, _+_, _<_, _≤_}
-use borrow.Author.Tests.{eqb-true, eq-eqb, ne-eqb}
+use borrow.Author.Tests.{eqb-true, eq-eqb, ne-eqb, leb-true, le-leb}
 use native.Mathlib.Numerals.{add-one}
 use native.Mathlib.Omega.{arith}
 use mathlib.Core.Bool.{Bool, true, false, _&&_, _||_, and-assoc}
 use mathlib.Core.List.{List, [], _∷_, _++_}
 use mathlib.Core.Path.{_≡_, refl, sym}
-use lib.Dec.{eqb}
+use lib.Dec.{eqb, leb}
 use lib.ListN.{length, getD, take, drop, length-take, drop-of-length-le}
 use lib.Seq.{drop-cons, getD-take}
-use Rattle.letters.specs.Lists.{every, some, sameBytes}
+use Rattle.letters.specs.Lists.{within, every, some, sameBytes}
 
 -- Both halves of a test that passed.
 pub and-left : (a b : Bool) → (a && b) ≡ true → a ≡ true
@@ -21,8 +21,22 @@ pub and-right : (a b : Bool) → (a && b) ≡ true → b ≡ true
 and-right true b h = h
 and-right false b h = absurd (let z : _≡_ {A = ℕ} 0 1 = cc in omega arith)
 
+-- A number in a range lies between its ends, and one between them is in it.
+module _ (least most n : ℕ) where
+  pub within-low : within least most n ≡ true → least ≤ n
+  within-low h = leb-true least n (and-left (leb least n) (leb n most) h)
+
+  pub within-high : within least most n ≡ true → n ≤ most
+  within-high h = leb-true n most (and-right (leb least n) (leb n most) h)
+
+  pub within-bounds : within least most n ≡ true → (least ≤ n) × (n ≤ most)
+  within-bounds h = (within-low h, within-high h)
+
+  pub within-true : least ≤ n → n ≤ most → within least most n ≡ true
+  within-true low high = simp (le-leb least n low, le-leb n most high)
+
 module _ {A : Type 0} (test : A → Bool) where
-  -- The test of the elements from i on is that of element i and of those behind it.
+  -- The test of the elements from i on is that of element i and of those after it.
   pub every-drop : (xs : List A) (i : ℕ) (d : A) → i < length xs
       → every test (drop i xs) ≡ (test (getD xs i d) && every test (drop (i + 1) xs))
   unfolding every

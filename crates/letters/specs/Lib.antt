@@ -1,4 +1,4 @@
--- Definitions on letters and sets of letters, and the tests over lists that the definitions above
--- them use.
+-- Definitions on letters and sets of letters, and the tests of numbers and lists that
+-- the definitions above them use.
 pub mod Lists
 pub mod Letter

@@ -1,10 +1,14 @@
--- Tests over lists, and what is said of all places from one on.
+-- Tests of numbers and of lists, and what is said of all places from one on.
 use Prim.Native.Nat.{ℕ, _≤_, _<_}
 use mathlib.Core.Bool.{Bool, true, false, _&&_, _||_}
 use mathlib.Core.List.{List, [], _∷_}
 use mathlib.Core.Path.{_≡_}
-use lib.Dec.{eqb}
+use lib.Dec.{eqb, leb}
 use lib.ListN.{length, getD}
+
+-- From `least` to `most`, both included.
+abbrev pub within : ℕ → ℕ → ℕ → Bool
+within least most n = leb least n && leb n most
 
 module _ {A : Type 0} (test : A → Bool) where
   -- Every element passes the test.

@@ -3,8 +3,16 @@
 ghost use mathlib.Core.Path.{_≡_};
 ghost use mathlib.Core.Bool.{true, _&&_, not};
 ghost use lib.Dec.{eqb};
+ghost use Rattle.letters.specs.Lists.{within};
 ghost use Rattle.letters.specs.Letter.{signalOn, inSet, letterFits, setFits, width, setOf};
 ghost use Rattle.letters.specs.Letter.{leastIn, without};
+
+// Whether a number is from `least` to `most`.
+pub fn within(least: usize, most: usize, n: usize) -> bool
+    ensures { λ r. ⌜ r ≡ within least most n ⌝ }
+{
+    (least <= n) & (n <= most)
+}
 
 // Whether a letter is in a set. No letter from 64 on is in one.
 pub fn contains(set: u64, letter: u8) -> bool

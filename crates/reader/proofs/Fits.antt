@@ -12,9 +12,9 @@ use lib.Pow.{pow-mono}
 use lib.Seq.{take-at, drop-at}
 use Rattle.letters.specs.Letter.{letters, width, setFits}
 use Rattle.letters.specs.Lists.{every}
-use Rattle.letters.proofs.Lists.{and-left, and-right}
+use Rattle.letters.proofs.Lists.{and-left, and-right, within-true}
 use Rattle.letters.proofs.Sets.{setOf-lt}
-use Rattle.table.specs.Limits.{mostSignals, mostRows, mostTicks, countFits}
+use Rattle.table.specs.Limits.{mostSignals, mostRows, mostTicks}
 use Rattle.table.specs.Row.{rowFits, rowUnused}
 use Rattle.table.specs.Name.{isLetter, nameFits, nameUnused}
 use Rattle.table.specs.Valid.{rulesFit, namesFit, tableFits}
@@ -98,9 +98,6 @@ module _ (names : List Name) (s : ℕ) where
   rows-fit rules rows none = refl
   rows-fit rules rows (and {a} {b} {l} {m} r more) = rw (row-fits a b r) (rows-fit l m more)
 
-count-fits : (n most : ℕ) → 1 ≤ n → n ≤ most → countFits n most ≡ true
-count-fits n most h g = rw (le-leb 1 n h, le-leb n most g)
-
 module _ (bytes : List ℕ) (t : Table) (f : IsFile bytes t) where
   abbrev s : ℕ
   s = length (f .names)
@@ -130,8 +127,8 @@ module _ (bytes : List ℕ) (t : Table) (f : IsFile bytes t) where
         f .table-is,
         take-at (f .rows) free many refl,
         drop-at (f .rows) free many refl,
-        count-fits many mostRows (f .rows-some) (f .rows-few),
-        count-fits s mostSignals (f .names-some) (f .names-few),
+        within-true 1 mostRows many (f .rows-some) (f .rows-few),
+        within-true 1 mostSignals s (f .names-some) (f .names-few),
         rows-fit known s (f .rules) (f .rows) (f .rows-are),
         names-are-fit,
       )

@@ -30,7 +30,8 @@ triggerEnds next Fail = Waiting
 
 -- A choice of phases is what a check's ending gives of the choice of endings.
 ends : (f : Check → Phase) (a b : Bool) (n : ℕ)
-    → cond a (f Done) (cond b (f (Continue n)) (f Fail)) ≡ f (cond a Done (cond b (Continue n) Fail))
+    → cond a (f Done) (cond b (f (Continue n)) (f Fail))
+    ≡ f (cond a Done (cond b (Continue n) Fail))
 ends f true b n = refl
 ends f false true n = refl
 ends f false false n = refl

@@ -1,61 +1,53 @@
 -- Phases, their codes, and number 18 for one row. Assumes nothing.
 use Prim.Native.Nat.{ℕ, _+_, _-_, _<_, _≤_}
-use native.Mathlib.Decide.{decLe}
+use native.Mathlib.Decide.{decLe, decLt}
 use native.Mathlib.Omega.{arith}
 use mathlib.Core.Bool.{true, or-false}
 use mathlib.Core.Path.{_≡_, refl, sym, ap, subst, _∙_}
-use borrow.Author.Tests.{lt-ltb, le-leb, lt-leb, ne-eqb, leb-true}
+use borrow.Author.Tests.{lt-ltb, le-leb, lt-leb, ne-eqb}
 use lib.Dec.{leb}
-use Rattle.letters.proofs.Lists.{and-left, and-right}
+use Rattle.letters.proofs.Lists.{within-low, within-high}
+use Rattle.table.specs.Limits.{mostTicks}
 use Rattle.table.specs.declared.Row.{Row}
 use Rattle.step.specs.declared.Phase.{Phase}
 use Rattle.step.specs.declared.Phase.the-variants.{Waiting, Trigger, Delay, Action, Broken}
-use Rattle.step.specs.Phase.{codeOf, phaseOf}
-use Rattle.step.specs.Fits.{ticksFit, phaseFits, codeFits}
+use Rattle.step.specs.Phase.{delayCodes, actionCodes, brokenCode, codeOf, phaseOf}
+use Rattle.step.specs.Fits.{phaseFits, codeFits}
 
--- A row whose bounds fit the codes: what number 17 lets by has them at most 60.
+-- A row whose bounds fit the codes: what number 17 lets by has at most `mostTicks`.
 pub record Bounded (row : Row) : Type 0 where
-  pub trigger : row .tmax ≤ 60
-  pub delay : row .lmax ≤ 60
-  pub action : row .amax ≤ 60
-
--- 1 to `most`, from the test.
-pub ticks-low : (most t : ℕ) → ticksFit most t ≡ true → 1 ≤ t
-ticks-low most t h = leb-true 1 t (and-left (leb 1 t) (leb t most) h)
-
-pub ticks-high : (most t : ℕ) → ticksFit most t ≡ true → t ≤ most
-ticks-high most t h = leb-true t most (and-right (leb 1 t) (leb t most) h)
-
-pub ticks-fit : (most t : ℕ) → 1 ≤ t → t ≤ most → ticksFit most t ≡ true
-ticks-fit most t low high = simp (le-leb 1 t low, le-leb t most high)
+  pub trigger : row .tmax ≤ mostTicks
+  pub delay : row .lmax ≤ mostTicks
+  pub action : row .amax ≤ mostTicks
 
 -- The phase of a code, by where the code lies.
-pub phaseOf-trigger : (c : ℕ) → 1 ≤ c → c ≤ 60 → phaseOf c ≡ Trigger c
+pub phaseOf-trigger : (c : ℕ) → 1 ≤ c → c ≤ mostTicks → phaseOf c ≡ Trigger c
 unfolding phaseOf
-phaseOf-trigger c low high = simp (ne-eqb c 0 (omega arith), le-leb c 60 high)
+phaseOf-trigger c low high = simp (ne-eqb c 0 (omega arith), le-leb c delayCodes high)
 
-pub phaseOf-delay : (d : ℕ) → 1 ≤ d → d ≤ 60 → phaseOf (60 + d) ≡ Delay d
+pub phaseOf-delay : (d : ℕ) → 1 ≤ d → d ≤ mostTicks → phaseOf (delayCodes + d) ≡ Delay d
 unfolding phaseOf
 phaseOf-delay d low high =
-    let back : 60 + d - 60 ≡ d = omega arith in
+    let back : delayCodes + d - delayCodes ≡ d = omega arith in
     simp (
-      ne-eqb (60 + d) 0 (omega arith),
-      lt-leb (60 + d) 60 (omega arith),
-      le-leb (60 + d) 120
+      ne-eqb (delayCodes + d) 0 (omega arith),
+      lt-leb (delayCodes + d) delayCodes (omega arith),
+      le-leb (delayCodes + d) actionCodes
           (omega arith),
       back,
     )
 
-pub phaseOf-action : (a : ℕ) → 1 ≤ a → a < 135 → phaseOf (120 + a) ≡ Action a
+pub phaseOf-action : (a : ℕ) → 1 ≤ a → actionCodes + a < brokenCode
+    → phaseOf (actionCodes + a) ≡ Action a
 unfolding phaseOf
 phaseOf-action a low high =
-    let back : 120 + a - 120 ≡ a = omega arith in
+    let back : actionCodes + a - actionCodes ≡ a = omega arith in
     simp (
-      ne-eqb (120 + a) 0 (omega arith),
-      lt-leb (120 + a) 60 (omega arith),
-      lt-leb (120 + a) 120
+      ne-eqb (actionCodes + a) 0 (omega arith),
+      lt-leb (actionCodes + a) delayCodes (omega arith),
+      lt-leb (actionCodes + a) actionCodes
           (omega arith),
-      lt-ltb (120 + a) 255 (omega arith),
+      lt-ltb (actionCodes + a) brokenCode (omega arith),
       back,
     )
 
@@ -64,22 +56,22 @@ pub phase-code : (row : Row) (phase : Phase) → Bounded row → phaseFits row p
     → phaseOf (codeOf phase) ≡ phase
 unfolding phaseFits codeOf
 phase-code row Waiting b h = unfold phaseOf in refl
-phase-code row (Trigger t) b h = phaseOf-trigger t (ticks-low _ t h)
-    (omega (arith, b .trigger, ticks-high _ t h))
-phase-code row (Delay d) b h = phaseOf-delay d (ticks-low _ d h)
-    (omega (arith, b .delay, ticks-high _ d h))
-phase-code row (Action a) b h = phaseOf-action a (ticks-low _ a h)
-    (omega (arith, b .action, ticks-high _ a h))
+phase-code row (Trigger t) b h = phaseOf-trigger t (within-low 1 _ t h)
+    (omega (arith, b .trigger, within-high 1 _ t h))
+phase-code row (Delay d) b h = phaseOf-delay d (within-low 1 _ d h)
+    (omega (arith, b .delay, within-high 1 _ d h))
+phase-code row (Action a) b h = phaseOf-action a (within-low 1 _ a h)
+    (omega (arith, b .action, within-high 1 _ a h))
 phase-code row Broken b h = unfold phaseOf in refl
 
 -- It is a code of one byte.
 pub code-low : (row : Row) (phase : Phase) → Bounded row → phaseFits row phase ≡ true
-    → codeOf phase ≤ 255
+    → codeOf phase ≤ brokenCode
 unfolding phaseFits codeOf
 code-low row Waiting b h = omega arith
-code-low row (Trigger t) b h = omega (arith, b .trigger, ticks-high _ t h)
-code-low row (Delay d) b h = omega (arith, b .delay, ticks-high _ d h)
-code-low row (Action a) b h = omega (arith, b .action, ticks-high _ a h)
+code-low row (Trigger t) b h = omega (arith, b .trigger, within-high 1 _ t h)
+code-low row (Delay d) b h = omega (arith, b .delay, within-high 1 _ d h)
+code-low row (Action a) b h = omega (arith, b .action, within-high 1 _ a h)
 code-low row Broken b h = omega arith
 
 -- Two phases that fit rows and have the same code are the same.
@@ -92,26 +84,26 @@ code-injective r q p o br bq hp ho e = sym (phase-code r p br hp) ∙ ap phaseOf
 -- Where a code of one byte lies.
 pub data Place : ℕ → Type 0 where
   waits : Place 0
-  triggers : {t : ℕ} → 1 ≤ t → t ≤ 60 → Place t
-  delays : {d : ℕ} → 1 ≤ d → d ≤ 60 → Place (60 + d)
-  acts : {a : ℕ} → 1 ≤ a → a < 135 → Place (120 + a)
-  breaks : Place 255
+  triggers : {t : ℕ} → 1 ≤ t → t ≤ mostTicks → Place t
+  delays : {d : ℕ} → 1 ≤ d → d ≤ mostTicks → Place (delayCodes + d)
+  acts : {a : ℕ} → 1 ≤ a → actionCodes + a < brokenCode → Place (actionCodes + a)
+  breaks : Place brokenCode
 
-pub place-of : (c : ℕ) → c ≤ 255 → Place c
-place-of c h = go (decLe c 0) (decLe c 60) (decLe c 120) (decLe c 254)
+pub place-of : (c : ℕ) → c ≤ brokenCode → Place c
+place-of c h = go (decLe c 0) (decLe c delayCodes) (decLe c actionCodes) (decLt c brokenCode)
   where
-    go : Dec (c ≤ 0) → Dec (c ≤ 60) → Dec (c ≤ 120) → Dec (c ≤ 254) → Place c
+    go : Dec (c ≤ 0) → Dec (c ≤ delayCodes) → Dec (c ≤ actionCodes) → Dec (c < brokenCode) → Place c
     go (yes z) b d e = subst Place {x = 0} {y = c} (omega arith) waits
     go (no z) (yes b) d e = triggers {t = c} (omega arith) b
-    go (no z) (no b) (yes d) e = subst Place {x = 60 + (c - 60)} (omega arith)
-        (delays {d = c - 60} (omega arith) (omega arith))
+    go (no z) (no b) (yes d) e = subst Place {x = delayCodes + (c - delayCodes)} (omega arith)
+        (delays {d = c - delayCodes} (omega arith) (omega arith))
     go (no z) (no b) (no d) (yes e) =
-        subst Place {x = 120 + (c - 120)} (omega arith)
-        (acts {a = c - 120} (omega arith) (omega arith))
-    go (no z) (no b) (no d) (no e) = subst Place {x = 255} (omega arith) breaks
+        subst Place {x = actionCodes + (c - actionCodes)} (omega arith)
+        (acts {a = c - actionCodes} (omega arith) (omega arith))
+    go (no z) (no b) (no d) (no e) = subst Place {x = brokenCode} (omega arith) breaks
 
 -- The phase of a code has that code.
-pub code-phase : (c : ℕ) → c ≤ 255 → codeOf (phaseOf c) ≡ c
+pub code-phase : (c : ℕ) → c ≤ brokenCode → codeOf (phaseOf c) ≡ c
 code-phase c h = go (place-of c h)
   where
     go : {k : ℕ} → Place k → codeOf (phaseOf k) ≡ k
@@ -129,7 +121,7 @@ leb-shift k a b = go (decLe a b)
     go (no h) = lt-leb (k + a) (k + b) (omega arith) ∙ sym (lt-leb a b (omega arith))
 
 -- Number 18 says the same of a code as of its phase.
-pub code-fits : (row : Row) (c : ℕ) → Bounded row → c ≤ 255
+pub code-fits : (row : Row) (c : ℕ) → Bounded row → c ≤ brokenCode
     → codeFits row c ≡ phaseFits row (phaseOf c)
 code-fits row c b h = go (place-of c h)
   where
@@ -139,23 +131,23 @@ code-fits row c b h = go (place-of c h)
         rw (phaseOf-trigger t low high)
         (simp (
           ne-eqb t 0 (omega arith),
-          ne-eqb t 255 (omega arith),
-          lt-leb 61 t (omega arith),
-          lt-leb 121 t (omega arith),
+          ne-eqb t brokenCode (omega arith),
+          lt-leb (delayCodes + 1) t (omega arith),
+          lt-leb (actionCodes + 1) t (omega arith),
           or-false,
         ))
     go (delays {d = d} low high) = unfold codeFits phaseFits in
         rw (phaseOf-delay d low high)
         (simp (
-          ne-eqb (60 + d) 0 (omega arith),
-          ne-eqb (60 + d) 255 (omega arith),
-          le-leb 1 (60 + d)
+          ne-eqb (delayCodes + d) 0 (omega arith),
+          ne-eqb (delayCodes + d) brokenCode (omega arith),
+          le-leb 1 (delayCodes + d)
               (omega arith),
-          lt-leb (60 + d) (row .tmax) (omega (arith, b .trigger)),
-          le-leb 61 (60 + d)
+          lt-leb (delayCodes + d) (row .tmax) (omega (arith, b .trigger)),
+          le-leb (delayCodes + 1) (delayCodes + d)
               (omega arith),
-          leb-shift 60 d (row .lmax),
-          lt-leb 121 (60 + d) (omega arith),
+          leb-shift delayCodes d (row .lmax),
+          lt-leb (actionCodes + 1) (delayCodes + d) (omega arith),
           le-leb 1 d
               low,
           or-false,
@@ -163,17 +155,17 @@ code-fits row c b h = go (place-of c h)
     go (acts {a = a} low high) = unfold codeFits phaseFits in
         rw (phaseOf-action a low high)
         (simp (
-          ne-eqb (120 + a) 0 (omega arith),
-          ne-eqb (120 + a) 255 (omega arith),
+          ne-eqb (actionCodes + a) 0 (omega arith),
+          ne-eqb (actionCodes + a) brokenCode (omega arith),
           le-leb 1
-              (120 + a) (omega arith),
-          lt-leb (120 + a) (row .tmax) (omega (arith, b .trigger)),
-          le-leb 61
-              (120 + a) (omega arith),
-          lt-leb (120 + a) (60 + row .lmax) (omega (arith, b .delay)),
+              (actionCodes + a) (omega arith),
+          lt-leb (actionCodes + a) (row .tmax) (omega (arith, b .trigger)),
+          le-leb (delayCodes + 1)
+              (actionCodes + a) (omega arith),
+          lt-leb (actionCodes + a) (delayCodes + row .lmax) (omega (arith, b .delay)),
           le-leb
-              121 (120 + a) (omega arith),
-          leb-shift 120 a (row .amax),
+              (actionCodes + 1) (actionCodes + a) (omega arith),
+          leb-shift actionCodes a (row .amax),
           le-leb 1 a low,
         ))
     go breaks = unfold codeFits phaseFits phaseOf in refl

@@ -7,8 +7,8 @@ use mathlib.Core.Path.{_≡_, refl, ap}
 use borrow.Author.Tests.{ltb-true}
 use lib.Dec.{leb, ltb}
 use lib.ListN.{length, getD}
-use Rattle.letters.proofs.Lists.{and-right}
-use Rattle.letters.specs.Lists.{some}
+use Rattle.letters.proofs.Lists.{and-right, within-true}
+use Rattle.letters.specs.Lists.{within, some}
 use Rattle.table.specs.Row.{holds, tse, tc, tee, ase, ac, aee, noRow}
 use Rattle.table.specs.declared.Row.{Row}
 use Rattle.step.specs.declared.Phase.{Phase}
@@ -16,8 +16,7 @@ use Rattle.step.specs.declared.Phase.the-variants.{Waiting, Trigger, Del
 use Rattle.step.specs.Phase.{isBroken}
 use Rattle.step.specs.Step.{actionCheck, delayCheck, triggerCheck, stepRow}
 use Rattle.step.specs.Tick.{tick, someBroken}
-use Rattle.step.specs.Fits.{ticksFit, phaseFits, phasesFit}
-use Rattle.step.proofs.Codes.{ticks-fit}
+use Rattle.step.specs.Fits.{phaseFits, phasesFit}
 
 -- A choice fits if what is chosen fits.
 fits-cond : (row : Row) (b : Bool) (p o : Phase) → phaseFits row p ≡ true
@@ -28,12 +27,12 @@ fits-cond row false p o hp ho = ho refl
 
 -- One more tick fits where a test found room for it.
 fits-more : (row : Row) (hold : Bool) (t most : ℕ) (p o : Phase) → phaseFits row o ≡ true
-    → (ticksFit most (t + 1) ≡ true → phaseFits row p ≡ true)
+    → (within 1 most (t + 1) ≡ true → phaseFits row p ≡ true)
     → phaseFits row (cond (hold && ltb t most) p o) ≡ true
 fits-more row hold t most p o ho hp = go (hold && ltb t most) refl
   where
     go : (b : Bool) → (hold && ltb t most) ≡ b → phaseFits row (cond b p o) ≡ true
-    go true e = hp (ticks-fit most (t + 1) (omega arith)
+    go true e = hp (within-true 1 most (t + 1) (omega arith)
         (omega (arith, ltb-true t most (and-right hold (ltb t most) e))))
     go false e = ho
 

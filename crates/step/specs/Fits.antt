@@ -2,30 +2,28 @@
 use Prim.Native.Nat.{ℕ, _+_}
 use mathlib.Core.Bool.{Bool, true, false, _&&_, _||_}
 use mathlib.Core.List.{List, [], _∷_}
-use lib.Dec.{leb, eqb}
-use Rattle.letters.specs.Lists.{every}
+use lib.Dec.{eqb}
+use Rattle.letters.specs.Lists.{within, every}
 use Rattle.table.specs.declared.Row.{Row}
 use Rattle.step.specs.declared.Phase.{Phase}
 use Rattle.step.specs.declared.Phase.the-variants.{Waiting, Trigger, Delay, Action, Broken}
-
--- 1 to `most` ticks.
-abbrev pub ticksFit : ℕ → ℕ → Bool
-ticksFit most t = leb 1 t && leb t most
+use Rattle.step.specs.Phase.{delayCodes, actionCodes, brokenCode}
 
 -- "A row's code is not 0, 255, nor trigger, delay or action with 1 to Tmax, Lmax or Amax ticks":
 -- over phases,
 unfoldable pub phaseFits : Row → Phase → Bool
 phaseFits row Waiting = true
-phaseFits row (Trigger t) = ticksFit (row .tmax) t
-phaseFits row (Delay d) = ticksFit (row .lmax) d
-phaseFits row (Action a) = ticksFit (row .amax) a
+phaseFits row (Trigger t) = within 1 (row .tmax) t
+phaseFits row (Delay d) = within 1 (row .lmax) d
+phaseFits row (Action a) = within 1 (row .amax) a
 phaseFits row Broken = true
 
 -- and over codes.
 unfoldable pub codeFits : Row → ℕ → Bool
 codeFits row c =
-    eqb c 0 || eqb c 255 || leb 1 c && leb c (row .tmax)
-    || leb 61 c && leb c (60 + row .lmax) || leb 121 c && leb c (120 + row .amax)
+    eqb c 0 || eqb c brokenCode || within 1 (row .tmax) c
+    || within (delayCodes + 1) (delayCodes + row .lmax) c
+    || within (actionCodes + 1) (actionCodes + row .amax) c
 
 unfoldable pub isWaiting : Phase → Bool
 isWaiting Waiting = true

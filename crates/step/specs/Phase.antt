@@ -1,24 +1,37 @@
 -- Phases and their codes.
-use Prim.Native.Nat.{ℕ, _+_, _-_}
+use Prim.Native.Nat.{ℕ, _+_, _*_, _-_}
 use mathlib.Core.Bool.{Bool, true, false, cond}
 use lib.Dec.{leb, ltb, eqb}
+use Rattle.table.specs.Limits.{mostTicks}
 use Rattle.step.specs.declared.Phase.{Phase}
 use Rattle.step.specs.declared.Phase.the-variants.{Waiting, Trigger, Delay, Action, Broken}
+
+-- The codes of delay and of action count on from these, and a broken row has the last one.
+abbrev pub delayCodes : ℕ
+delayCodes = mostTicks
+
+abbrev pub actionCodes : ℕ
+actionCodes = 2 * mostTicks
+
+abbrev pub brokenCode : ℕ
+brokenCode = 255
 
 -- "Phase codes: 0 waiting; 1-60 trigger elapsed; 60 + elapsed for delay; 120 + elapsed for action;
 -- 255 broken."
 unfoldable pub codeOf : Phase → ℕ
 codeOf Waiting = 0
 codeOf (Trigger t) = t
-codeOf (Delay d) = 60 + d
-codeOf (Action a) = 120 + a
-codeOf Broken = 255
+codeOf (Delay d) = delayCodes + d
+codeOf (Action a) = actionCodes + a
+codeOf Broken = brokenCode
 
 -- And back. From 181 to 254 there is no phase of a row: the action there is longer than any bound.
 unfoldable pub phaseOf : ℕ → Phase
 phaseOf c =
-    cond (eqb c 0) Waiting (cond (leb c 60) (Trigger c) (cond (leb c 120) (Delay (c - 60))
-    (cond (ltb c 255) (Action (c - 120)) Broken)))
+    cond (eqb c 0) Waiting
+    (cond (leb c delayCodes) (Trigger c)
+    (cond (leb c actionCodes) (Delay (c - delayCodes))
+    (cond (ltb c brokenCode) (Action (c - actionCodes)) Broken)))
 
 unfoldable pub isBroken : Phase → Bool
 isBroken Waiting = false

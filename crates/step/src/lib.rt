@@ -3,6 +3,7 @@
 use table::AC;
 use table::AEE;
 use table::ASE;
+use table::MOST_TICKS;
 use table::Row;
 use table::TC;
 use table::TEE;
@@ -13,7 +14,14 @@ ghost use Rattle.step.specs.declared.Phase.the-variants.{Waiting};
 ghost use Rattle.step.specs.Step.{actionCheck, delayCheck, triggerCheck};
 ghost use Rattle.step.specs.Step.{steppedTo, stepped};
 ghost use Rattle.step.specs.inner.Check.{checkOf};
-ghost use Rattle.step.specs.Fits.{ticksFit, phaseFits, isWaiting};
+ghost use Rattle.step.specs.Fits.{phaseFits, isWaiting};
+
+// The codes of delay and of action count on from these, and a broken row has the last one.
+pub const DELAY_CODES: u8 = MOST_TICKS;
+
+pub const ACTION_CODES: u8 = 2 * MOST_TICKS;
+
+pub const BROKEN_CODE: u8 = 255;
 
 // A row is waiting, or in trigger, delay or action with its elapsed ticks, or broken.
 pub enum Phase {
@@ -119,40 +127,34 @@ pub fn step_row(row: Row, letter: u8, phase: Phase) -> Stepped
     }
 }
 
-// A phase's code. A phase that number 18 lets by has one of at most 255.
+// A phase's code. A phase that number 18 lets by has one of at most `BROKEN_CODE`.
 pub fn code(phase: Phase) -> u16
     ensures { λ r. ⌜ r ≡ codeOf phase ⌝ }
 {
     match phase {
         Phase::Waiting => 0,
         Phase::Trigger(t) => t as u16,
-        Phase::Delay(d) => 60 + d as u16,
-        Phase::Action(a) => 120 + a as u16,
-        Phase::Broken => 255,
+        Phase::Delay(d) => DELAY_CODES as u16 + d as u16,
+        Phase::Action(a) => ACTION_CODES as u16 + a as u16,
+        Phase::Broken => BROKEN_CODE as u16,
     }
 }
 
-// The phase of a code. A code from 181 to 254 gives an action that is too long for any row.
+// The phase of a code. Some codes below `BROKEN_CODE` are of actions too long for any row.
 pub fn phase_of(code: u8) -> Phase
     ensures { λ r. ⌜ r ≡ phaseOf code ⌝ }
 {
     if code == 0 {
         Phase::Waiting
-    } else if code <= 60 {
+    } else if code <= DELAY_CODES {
         Phase::Trigger(code)
-    } else if code <= 120 {
-        Phase::Delay(code - 60)
-    } else if code < 255 {
-        Phase::Action(code - 120)
+    } else if code <= ACTION_CODES {
+        Phase::Delay(code - DELAY_CODES)
+    } else if code < BROKEN_CODE {
+        Phase::Action(code - ACTION_CODES)
     } else {
         Phase::Broken
     }
-}
-
-fn ticks_fit(most: u8, t: u8) -> bool
-    ensures { λ r. ⌜ r ≡ ticksFit most t ⌝ }
-{
-    (1 <= t) & (t <= most)
 }
 
 // Whether number 18 lets a row's phase by.
@@ -161,9 +163,9 @@ pub fn phase_fits(row: Row, phase: Phase) -> bool
 {
     match phase {
         Phase::Waiting => true,
-        Phase::Trigger(t) => ticks_fit(row.tmax, t),
-        Phase::Delay(d) => ticks_fit(row.lmax, d),
-        Phase::Action(a) => ticks_fit(row.amax, a),
+        Phase::Trigger(t) => letters::within(1, row.tmax as usize, t as usize),
+        Phase::Delay(d) => letters::within(1, row.lmax as usize, d as usize),
+        Phase::Action(a) => letters::within(1, row.amax as usize, a as usize),
         Phase::Broken => true,
     }
 }

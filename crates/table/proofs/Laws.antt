@@ -1,18 +1,16 @@
 -- Laws of names and of table values. A loop's turn at place i: `-next` where it goes on, `-stop`
 -- where it settles the answer, `-end` past the last place. Assumes nothing.
 use Prim.Native.Nat.{ℕ, _+_, _<_, _≤_}
-use borrow.Author.Tests.{leb-true}
 use native.Mathlib.Numerals.{add-one}
 use mathlib.Core.Bool.{true, false, _&&_, not}
 use mathlib.Core.List.{List}
 use mathlib.Core.Path.{_≡_}
-use lib.Dec.{leb}
 use lib.ListN.{length, getD, take, drop, drop-of-length-le}
 use lib.Seq.{drop-cons, getD-take}
 use Rattle.letters.specs.Letter.{setFits}
-use Rattle.letters.specs.Lists.{every, some}
-use Rattle.letters.proofs.Lists.{and-left, and-right, and-four, lt-length-take}
-use Rattle.table.specs.Limits.{countFits, mostRows, mostSignals}
+use Rattle.letters.specs.Lists.{within, every, some}
+use Rattle.letters.proofs.Lists.{and-left, and-right, and-four, lt-length-take, within-bounds}
+use Rattle.table.specs.Limits.{mostRows, mostSignals, mostTicks}
 use Rattle.table.specs.Row.{boundsFit, rowFits, rowUnused}
 use Rattle.table.specs.Name.{isLetter, letterRun, sameName, allDistinct}
 use Rattle.table.specs.Valid.{rulesFit, namesFit, rowsOf, tableFits}
@@ -55,35 +53,23 @@ pub allDistinct-end : (xs : List Name) (i : ℕ) → length xs ≤ i → allDist
 unfolding allDistinct
 allDistinct-end xs i h = rw (drop-of-length-le xs h)
 
--- What a test that passed says of its numbers.
-leb-both : (a b c d : ℕ) → (leb a b && leb c d) ≡ true → (a ≤ b) × (c ≤ d)
-leb-both a b c d h =
-    (leb-true a b (and-left _ (leb c d) h), leb-true c d (and-right (leb a b) _ h))
-
-pub countFits-bounds : (n most : ℕ) → countFits n most ≡ true → (1 ≤ n) × (n ≤ most)
-countFits-bounds n most h = leb-both 1 n n most h
-
-pub boundsFit-bounds : (least most : ℕ) → boundsFit least most ≡ true
-    → (least ≤ most) × (most ≤ 60)
-boundsFit-bounds least most h = leb-both least most most 60 h
-
 -- The bounds of a row that a file can have.
 pub record RowBounds (r : Row) : Type 0 where
   pub trigger : r .tmin ≤ r .tmax
-  pub trigger-most : r .tmax ≤ 60
+  pub trigger-most : r .tmax ≤ mostTicks
   pub delay : r .lmin ≤ r .lmax
-  pub delay-most : r .lmax ≤ 60
+  pub delay-most : r .lmax ≤ mostTicks
   pub action : r .amin ≤ r .amax
-  pub action-most : r .amax ≤ 60
+  pub action-most : r .amax ≤ mostTicks
 
 pub rowFits-bounds : (s : ℕ) (r : Row) → rowFits s r ≡ true → RowBounds r
 unfolding rowFits
 rowFits-bounds s r h =
     let parts = and-four (boundsFit (r .tmin) (r .tmax)) (boundsFit (r .lmin) (r .lmax))
     (boundsFit (r .amin) (r .amax)) (every (setFits s) (r .sets)) h in
-    let t = boundsFit-bounds (r .tmin) (r .tmax) (parts .0) in
-    let l = boundsFit-bounds (r .lmin) (r .lmax) (parts .1) in
-    let a = boundsFit-bounds (r .amin) (r .amax) (parts .2) in
+    let t = within-bounds (r .tmin) mostTicks (r .tmax) (parts .0) in
+    let l = within-bounds (r .lmin) mostTicks (r .lmax) (parts .1) in
+    let a = within-bounds (r .amin) mostTicks (r .amax) (parts .2) in
     record {
       trigger = t .0;
       trigger-most = t .1;
@@ -98,29 +84,29 @@ pub rulesFit-signals : (s : ℕ) (rows : List Row) → rulesFit s rows ≡ true
 unfolding rulesFit
 rulesFit-signals s rows h =
     let counts = and-left _ (every (rowFits s) rows) h in
-    countFits-bounds s mostSignals (and-left _ (countFits (length rows) mostRows) counts)
+    within-bounds 1 mostSignals s (and-left _ (within 1 mostRows (length rows)) counts)
 
 pub rulesFit-count : (s : ℕ) (rows : List Row) → rulesFit s rows ≡ true
     → (1 ≤ length rows) × (length rows ≤ mostRows)
 unfolding rulesFit
 rulesFit-count s rows h =
     let counts = and-left _ (every (rowFits s) rows) h in
-    countFits-bounds (length rows) mostRows (and-right (countFits s mostSignals) _ counts)
+    within-bounds 1 mostRows (length rows) (and-right (within 1 mostSignals s) _ counts)
 
 pub rulesFit-rows : (s : ℕ) (rows : List Row) → rulesFit s rows ≡ true
     → every (rowFits s) rows ≡ true
 unfolding rulesFit
-rulesFit-rows s rows h = and-right (countFits s mostSignals && countFits (length rows) mostRows) _ h
+rulesFit-rows s rows h = and-right (within 1 mostSignals s && within 1 mostRows (length rows)) _ h
 
 -- A table value that number 17 lets by.
 module _ (t : Table) (fits : tableFits t ≡ true) where
-  tableFits-parts : (countFits (t .count) mostRows ≡ true) ×
+  tableFits-parts : (within 1 mostRows (t .count) ≡ true) ×
       (rulesFit (t .signals) (rowsOf t) ≡ true)
       × (namesFit (t .signals) (t .names) ≡ true)
       × (every rowUnused (drop (t .count) (t .rows)) ≡ true)
   unfolding tableFits
   tableFits-parts =
-      and-four (countFits (t .count) mostRows) (rulesFit (t .signals) (rowsOf t))
+      and-four (within 1 mostRows (t .count)) (rulesFit (t .signals) (rowsOf t))
       (namesFit (t .signals) (t .names)) (every rowUnused (drop (t .count) (t .rows))) fits
 
   pub tableFits-rules : rulesFit (t .signals) (rowsOf t) ≡ true
@@ -130,7 +116,7 @@ module _ (t : Table) (fits : tableFits t ≡ true) where
   tableFits-names = tableFits-parts .2
 
   pub tableFits-count : (1 ≤ t .count) × (t .count ≤ mostRows)
-  tableFits-count = countFits-bounds (t .count) mostRows (tableFits-parts .0)
+  tableFits-count = within-bounds 1 mostRows (t .count) (tableFits-parts .0)
 
   pub tableFits-signals : (1 ≤ t .signals) × (t .signals ≤ mostSignals)
   tableFits-signals = rulesFit-signals (t .signals) (rowsOf t) tableFits-rules

@@ -4,13 +4,13 @@ use mathlib.Core.Bool.{Bool, true, _&&_, not, cond}
 use mathlib.Core.List.{List, [], _∷_}
 use lib.Dec.{leb}
 use lib.ListN.{drop}
-use Rattle.letters.specs.Lists.{every, some, sameBytes}
+use Rattle.letters.specs.Lists.{within, every, some, sameBytes}
 use Rattle.table.specs.Row.{isZero}
 use Rattle.table.specs.declared.Name.{Name}
 
 -- The letters a-z.
 abbrev pub isLetter : ℕ → Bool
-isLetter b = leb 97 b && leb b 122
+isLetter b = within 97 122 b
 
 -- How many letters stand in front.
 unfoldable pub letterRun : List ℕ → ℕ

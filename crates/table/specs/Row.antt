@@ -2,10 +2,10 @@
 use Prim.Native.Nat.{ℕ}
 use mathlib.Core.Bool.{Bool, _&&_}
 use mathlib.Core.List.{[]}
-use lib.Dec.{leb, eqb}
+use lib.Dec.{eqb}
 use lib.ListN.{getD}
 use Rattle.letters.specs.Letter.{inSet, setFits}
-use Rattle.letters.specs.Lists.{every}
+use Rattle.letters.specs.Lists.{within, every}
 use Rattle.table.specs.Limits.{mostTicks}
 use Rattle.table.specs.declared.Row.{Row}
 
@@ -34,7 +34,7 @@ holds row condition letter = inSet (getD (row .sets) condition 0) letter
 
 -- "A bound is 0 to 60 ..; least is not above most."
 abbrev pub boundsFit : ℕ → ℕ → Bool
-boundsFit least most = leb least most && leb most mostTicks
+boundsFit least most = within least mostTicks most
 
 -- A row that a file with s signals can have.
 unfoldable pub rowFits : ℕ → Row → Bool

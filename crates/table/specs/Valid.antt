@@ -3,8 +3,8 @@ use Prim.Native.Nat.{ℕ}
 use mathlib.Core.Bool.{Bool, _&&_}
 use mathlib.Core.List.{List}
 use lib.ListN.{length, take, drop}
-use Rattle.letters.specs.Lists.{every}
-use Rattle.table.specs.Limits.{mostSignals, mostRows, countFits}
+use Rattle.letters.specs.Lists.{within, every}
+use Rattle.table.specs.Limits.{mostSignals, mostRows}
 use Rattle.table.specs.Row.{rowFits, rowUnused}
 use Rattle.table.specs.Name.{nameFits, nameUnused, allDistinct}
 use Rattle.table.specs.declared.Row.{Row}
@@ -15,7 +15,7 @@ use Rattle.table.specs.declared.Table.{Table}
 -- file can have.
 unfoldable pub rulesFit : ℕ → List Row → Bool
 rulesFit s rows =
-    countFits s mostSignals && countFits (length rows) mostRows && every (rowFits s) rows
+    within 1 mostSignals s && within 1 mostRows (length rows) && every (rowFits s) rows
 
 -- The part of it for names: one for each signal, none twice, and the unused ones 0.
 unfoldable pub namesFit : ℕ → List Name → Bool
@@ -31,6 +31,6 @@ rowsOf table = take (table .count) (table .rows)
 -- by.
 unfoldable pub tableFits : Table → Bool
 tableFits table =
-    countFits (table .count) mostRows && rulesFit (table .signals) (rowsOf table)
+    within 1 mostRows (table .count) && rulesFit (table .signals) (rowsOf table)
     && namesFit (table .signals) (table .names)
     && every rowUnused (drop (table .count) (table .rows))

@@ -4,7 +4,6 @@ pub mod names;
 pub mod rows;
 
 ghost use mathlib.Core.Path.{_≡_};
-ghost use Rattle.table.specs.Limits.{countFits};
 ghost use Rattle.table.specs.Valid.{tableFits};
 
 // The limits of document 01. specs/Limits.antt has them too.
@@ -67,13 +66,6 @@ pub enum Outcome {
     Refused(Refusal),
 }
 
-// Whether there are 1 to `most` of something.
-pub fn count_fits(n: usize, most: usize) -> bool
-    ensures { λ r. ⌜ r ≡ countFits n most ⌝ }
-{
-    (1 <= n) & (n <= most)
-}
-
 // Whether number 17 lets a table value by.
 pub fn valid(table: Table) -> bool
     ensures { λ r. ⌜ r ≡ tableFits table ⌝ }
@@ -82,8 +74,8 @@ pub fn valid(table: Table) -> bool
     let count = table.count as usize;
     let names = table.names;
     let rows = table.rows;
-    count_fits(signals, MOST_SIGNALS)
-        & count_fits(count, MOST_ROWS)
+    letters::within(1, MOST_SIGNALS, signals)
+        & letters::within(1, MOST_ROWS, count)
         & names::used_fit(names, signals)
         & names::distinct(names, signals)
         & names::rest_unused(names, signals)

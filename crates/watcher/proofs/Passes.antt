@@ -12,8 +12,8 @@ use lib.Dec.{ltb}
 use lib.ListN.{length, getD, set, take, drop, length-append, drop-of-length-le}
 use lib.Seq.{set-at, getD-at, append-snoc, drop-cons}
 use Rattle.letters.specs.Letter.{letterFits}
-use Rattle.letters.specs.Lists.{every}
-use Rattle.table.specs.Limits.{mostSignals, mostRows, countFits}
+use Rattle.letters.specs.Lists.{within, every}
+use Rattle.table.specs.Limits.{mostSignals, mostRows}
 use Rattle.table.specs.Row.{rowFits, noRow}
 use Rattle.table.specs.Valid.{rulesFit}
 use Rattle.table.specs.declared.Row.{Row}
@@ -206,7 +206,7 @@ module _ (s : ℕ) (rows : List Row) (watch : Watch) (letter : ℕ)
     many : mostRows < length rows → finished last watch ≡ tickAnswer s rows watch letter
     unfolding tickAnswer begun rulesFit
     many h =
-        let over : (countFits s mostSignals && countFits (length rows) mostRows) ≡ false =
+        let over : (within 1 mostSignals s && within 1 mostRows (length rows)) ≡ false =
         simp (lt-leb (length rows) mostRows h, and-false) in
         finish-same last watch (last .watch) false (last .phases)
         (letterFits (last .signals) (last .letter))

@@ -59,7 +59,8 @@ pub(crate) fn begin(signals: u8, n: usize, watch: Watch, letter: u8) -> Pass
     Pass {
         signals,
         letter,
-        rules: table::count_fits(signals as usize, MOST_SIGNALS) & table::count_fits(n, MOST_ROWS),
+        rules: letters::within(1, MOST_SIGNALS, signals as usize)
+            & letters::within(1, MOST_ROWS, n),
         phases: rest_waiting(watch, n),
         watch,
     }

@@ -7,13 +7,13 @@ use mathlib.Core.Bool.{Bool, true, false, _&&_, and-comm}
 use mathlib.Core.Path.{_≡_, refl}
 use lib.ListN.{length, take, drop, length-map}
 use lib.Seq.{length-take-le}
-use Rattle.letters.specs.Lists.{every}
-use Rattle.table.specs.Limits.{countFits, mostRows, mostSignals}
+use Rattle.letters.specs.Lists.{within, every}
+use Rattle.letters.proofs.Lists.{within-high}
+use Rattle.table.specs.Limits.{mostRows, mostSignals}
 use Rattle.table.specs.Row.{rowFits, rowUnused}
 use Rattle.table.specs.Name.{nameFits, nameUnused, allDistinct}
 use Rattle.table.specs.Valid.{rulesFit, namesFit, rowsOf, tableFits}
 use Rattle.table.specs.declared.Table.{Table}
-use Rattle.table.proofs.Laws.{countFits-bounds}
 use Rattle.table.proofs.valid.Statement.{statement}
 use Rattle.table.proofs.valid.Tie as tie
 
@@ -26,11 +26,10 @@ tests-order false true l nf nd nr rf ru h = refl
 tests-order false false l nf nd nr rf ru h = refl
 
 -- eight places hold as many used rows as the row count says
-count-used : (t : Table) → length (t .rows) ≡ mostRows → countFits (t .count) mostRows ≡ true
-    → countFits (length (rowsOf t)) mostRows ≡ true
+count-used : (t : Table) → length (t .rows) ≡ mostRows → within 1 mostRows (t .count) ≡ true
+    → within 1 mostRows (length (rowsOf t)) ≡ true
 count-used t e h =
-    let b = countFits-bounds (t .count) mostRows h in
-    let fits : t .count ≤ length (t .rows) = omega arith in
+    let fits : t .count ≤ length (t .rows) = omega (arith, within-high 1 mostRows (t .count) h) in
     rw length-take-le h
 
 -- a table value has eight places for rows: it is so of its fourth field
@@ -44,8 +43,8 @@ returns c =
     let start = copied .before .before .before .before in
     let t = start .args .table in
     let s = t .signals in
-    let order = tests-order (countFits s mostSignals) (countFits (t .count) mostRows)
-    (countFits (length (rowsOf t)) mostRows)
+    let order = tests-order (within 1 mostSignals s) (within 1 mostRows (t .count))
+    (within 1 mostRows (length (rowsOf t)))
     (every nameFits (take s (t .names))) (allDistinct (take s (t .names)))
     (every nameUnused (drop s (t .names))) (every (rowFits s) (rowsOf t))
     (every rowUnused (drop (t .count) (t .rows))) (count-used t (eight start)) in

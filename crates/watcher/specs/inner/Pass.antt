@@ -5,8 +5,8 @@ use mathlib.Core.List.{List, [], _∷_}
 use lib.Dec.{ltb}
 use lib.ListN.{getD, set, drop}
 use Rattle.letters.specs.Letter.{letterFits}
-use Rattle.letters.specs.Lists.{every}
-use Rattle.table.specs.Limits.{mostSignals, mostRows, countFits}
+use Rattle.letters.specs.Lists.{within, every}
+use Rattle.table.specs.Limits.{mostSignals, mostRows}
 use Rattle.table.specs.Row.{rowFits}
 use Rattle.table.specs.declared.Row.{Row}
 use Rattle.step.specs.declared.Phase.{Phase}
@@ -27,7 +27,7 @@ unfoldable pub begun : ℕ → ℕ → Watch → ℕ → Pass
 begun s n watch letter = record {
   signals = s;
   letter = letter;
-  rules = countFits s mostSignals && countFits n mostRows;
+  rules = within 1 mostSignals s && within 1 mostRows n;
   phases = every isWaiting (drop n (phasesOf watch));
   watch = watch;
 }

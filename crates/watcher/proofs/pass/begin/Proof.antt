@@ -8,9 +8,9 @@ returns : tie.Need-returns
 unfolding begun
 returns c = rw (
   c .rest-waiting .ensures,
-  c .before .count-fits2 .ensures,
+  c .before .within2 .ensures,
   c .before .before
-      .count-fits .ensures,
+      .within .ensures,
 )
 
 pub begin-spec : {M : Type 1} → statement M
