@@ -5,7 +5,7 @@ use mathlib.Core.Path.{_≡_}
 use Rattle.table.specs.declared.Outcome.the-variants.{Accepted, Refused}
 use Rattle.table.specs.declared.Refusal.{Refusal}
 use Rattle.reader.specs.declared.Reading.{Reading}
-use Rattle.reader.specs.File.{readAnswer}
+use Rattle.reader.specs.inner.File.{readAnswer}
 use Rattle.search.specs.Answer.{Lent}
 use Rattle.checker.specs.Answer.{behindReading, checkAnswer, Call}
 

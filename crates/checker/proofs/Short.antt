@@ -1,5 +1,5 @@
 -- A report takes at most 70,000 bytes where the trace buffer has at most 4,096. Assumes nothing.
-use Prim.Native.Nat.{ℕ, _≤_, _<_}
+use Prim.Native.Nat.{ℕ, _≤_}
 use native.Mathlib.Omega.{arith}
 use mathlib.Core.Bool.{Bool, true, false, cond}
 use mathlib.Core.List.{List}
@@ -14,11 +14,8 @@ use Rattle.table.proofs.Laws.{tableFits-count, tableFits-signals}
 use Rattle.traces.specs.inner.Answer.{Answer}
 use Rattle.traces.specs.inner.Answer.Answer.{tooMany, sound, trapped}
 use Rattle.traces.proofs.Answer.{Within, answer-within}
-use Rattle.reader.specs.File.{readAnswer}
-use Rattle.reader.specs.Grammar.{Place, noLine, line1, line2, line3, rowLine, ninthRow}
-use Rattle.reader.specs.Grammar.{Answered, taken, turned}
-use Rattle.reader.proofs.Accepted.{accepted-file}
-use Rattle.reader.proofs.Answers.{read-answered}
+use Rattle.reader.specs.inner.File.{readAnswer}
+use Rattle.reader.proofs.Accepted.{Told, taken, turned, read-told}
 use Rattle.reader.proofs.Fits.{file-fits}
 use Rattle.scratch.specs.inner.Same.{samePhases}
 use Rattle.search.specs.Answer.{Lent, roomOf, systemOf, refusedFound, trappedFound, traced}
@@ -63,25 +60,15 @@ module _ (table : Table) (lent : Lent) (short : length (lent .trace) ≤ 4096) w
   accepted-short fits =
       report-short (table .signals) _ _ (tableFits-signals table fits .1) (searched-few fits)
 
-place-few : {number line : ℕ} → Place number line → (number < 1000) × (line < 1000)
-place-few (noLine p q) = (omega arith, omega arith)
-place-few (line1 p q) = (omega arith, omega arith)
-place-few (line2 p q) = (omega arith, omega arith)
-place-few line3 = (omega arith, omega arith)
-place-few (rowLine i h p q) = (omega arith, omega arith)
-place-few ninthRow = (omega arith, omega arith)
-
 checked-short : (bytes : List ℕ) (lent : Lent) → length (lent .trace) ≤ 4096
     → length (checkAnswer bytes lent .report) ≤ 70000
 unfolding checkAnswer
-checked-short bytes lent short = go (read-answered bytes)
+checked-short bytes lent short = go (read-told bytes)
   where
-    go : Answered (readAnswer bytes) → length (checkAnswer bytes lent .report) ≤ 70000
-    go (taken table e) =
-        rw e (accepted-short table lent short
-        (file-fits bytes table (accepted-file bytes table e)))
-    go (turned number line place e) =
-        rw e (report-short 0 _ _ (omega arith) (place-few place))
+    go : Told bytes (readAnswer bytes) → length (checkAnswer bytes lent .report) ≤ 70000
+    go (taken table file e) = rw e (accepted-short table lent short (file-fits bytes table file))
+    go (turned number line small low e) =
+        rw e (report-short 0 _ _ (omega arith) (omega arith, omega arith))
 
 pub program-short : (bytes : List ℕ) → length (checkAnswer bytes programLent .report) ≤ 70000
 program-short bytes = checked-short bytes programLent (rw length-replicate (omega arith))

@@ -5,7 +5,7 @@ use lib.ListN.{length, replicate}
 use Rattle.table.specs.declared.Outcome.{Outcome}
 use Rattle.table.specs.declared.Outcome.the-variants.{Accepted, Refused}
 use Rattle.table.specs.declared.Table.{Table}
-use Rattle.reader.specs.File.{readAnswer}
+use Rattle.reader.specs.inner.File.{readAnswer}
 use Rattle.search.specs.declared.Found.{Found}
 use Rattle.search.specs.declared.Verdict.{Verdict}
 use Rattle.search.specs.declared.Verdict.the-variants.{Absent, Sound, Trapped}

@@ -16,10 +16,10 @@ use Rattle.letters.proofs.Sets.{setOf-or, setOf-and, setOf-others, setOf-false}
 use Rattle.table.specs.Name.{isLetter, letterRun}
 use Rattle.table.specs.declared.Name.{Name}
 use Rattle.conditions.specs.Bytes.{'|', '&', '!', '0', '1', opening, closing}
-use Rattle.conditions.specs.Condition.{IsName, Kind, choice, term, factor, Cond, text}
+use Rattle.conditions.specs.Condition.{IsName, Kind, choice, term, factor, Condition, text}
 use Rattle.conditions.specs.Condition.{nameOf, place, holdsAt, unknown}
-use Rattle.conditions.specs.Condition.Cond.{oneTerm, or, oneFactor, and, negated, named}
-use Rattle.conditions.specs.Condition.Cond.{never, always, grouped}
+use Rattle.conditions.specs.Condition.Condition.{oneTerm, or, oneFactor, and, negated, named}
+use Rattle.conditions.specs.Condition.Condition.{never, always, grouped}
 use Rattle.conditions.specs.inner.Reading.{isAt, signal, nameAt, digitAt, rank, reads}
 use Rattle.conditions.specs.declared.Read.{Read}
 use Rattle.conditions.specs.declared.Read.the-variants.{Set}
@@ -77,7 +77,7 @@ no-sign (x ∷ w) rest b p g =
     ne-eqb x b (λ e. true≢false (sym letter ∙ ap isLetter e ∙ g))
 
 module _ (names : List Name) (n : ℕ) (s : List ℕ) where
-  abbrev Whole : {k : Kind} → Cond k → ℕ → Read → Type 0
+  abbrev Whole : {k : Kind} → Condition k → ℕ → Read → Type 0
   Whole c at r = r ≡ Set (setOf n (holdsAt names c)) (unknown names c) (at + length (text c))
 
   set-path : {v w i j : ℕ} {u : Bool} → v ≡ w → i ≡ j → Set v u i ≡ Set w u j
@@ -95,7 +95,7 @@ module _ (names : List Name) (n : ℕ) (s : List ℕ) where
         take-append-seam w rest,
       )
 
-  pub complete : {k : Kind} (c : Cond k) (f at : ℕ) (rest : List ℕ)
+  pub complete : {k : Kind} (c : Condition k) (f at : ℕ) (rest : List ℕ)
       → 3 * length (text c) + rank k < f → drop at s ≡ text c ++ rest → stops k rest ≡ true
       → Whole c at (reads names n s f k at)
   unfolding reads digitAt text holdsAt unknown

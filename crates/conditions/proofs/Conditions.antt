@@ -13,9 +13,10 @@ use lib.Seq.{drop-length}
 use Rattle.letters.specs.Letter.{setOf}
 use Rattle.letters.proofs.Sets.{in-setOf}
 use Rattle.table.specs.declared.Name.{Name}
-use Rattle.conditions.specs.Condition.{choice, Cond, text, holdsAt, unknown, Means}
-use Rattle.conditions.specs.Depth.{Shallow, deep}
-use Rattle.conditions.specs.Judge.{verdictOf, judge}
+use Rattle.conditions.specs.Condition.{choice, Condition, text, holdsAt, unknown}
+use Rattle.conditions.specs.Condition.{ConditionMeans}
+use Rattle.conditions.specs.Depth.{Shallow}
+use Rattle.conditions.specs.inner.Judge.{deep, verdictOf, judge}
 use Rattle.conditions.specs.inner.Reading.{reads, wholly, conditionOf}
 use Rattle.conditions.specs.declared.Read.{Read}
 use Rattle.conditions.specs.declared.Read.the-variants.{Set, Nothing}
@@ -26,7 +27,7 @@ use Rattle.conditions.proofs.Sound.{Sound, sound}
 
 module _ (names : List Name) (n : ℕ) (s : List ℕ) where
   -- What a condition writes is read, with its meaning.
-  tree-read : (c : Cond choice) → text c ≡ s
+  tree-read : (c : Condition choice) → text c ≡ s
       → conditionOf names n s ≡ Set (setOf n (holdsAt names c)) (unknown names c) (length s)
   unfolding conditionOf
   tree-read c e =
@@ -35,13 +36,13 @@ module _ (names : List Name) (n : ℕ) (s : List ℕ) where
       let r = complete names n s c f 0 [] (rw e (omega arith)) whole refl in
       rw (r, zero-add, e, eq-eqb (length s) (length s) refl)
 
-  pub means-read : (v : ℕ) (u : Bool) → Means names n s v u
+  pub means-read : (v : ℕ) (u : Bool) → ConditionMeans names n s v u
       → conditionOf names n s ≡ Set v u (length s)
   means-read v u m = tree-read (m .tree) (m .bytes) ∙ rw (m .letters, m .flag)
 
   -- What is read is written by a condition with that meaning.
   pub read-means : (v : ℕ) (u : Bool) (next : ℕ) → conditionOf names n s ≡ Set v u next
-      → Means names n s v u
+      → ConditionMeans names n s v u
   unfolding conditionOf
   read-means v u next e = go (reads names n s f choice 0) (sound names n s f 0 choice) e
     where
@@ -50,7 +51,7 @@ module _ (names : List Name) (n : ℕ) (s : List ℕ) where
 
       end : (w : ℕ) (t b : Bool) (last : ℕ) → eqb last (length s) ≡ b
           → Sound names n s choice 0 (Set w t last)
-          → cond b (Set w t last) Nothing ≡ Set v u next → Means names n s v u
+          → cond b (Set w t last) Nothing ≡ Set v u next → ConditionMeans names n s v u
       end w t false last p h q = absurd (let z : _≡_ {A = ℕ} 0 1 = cc in omega arith)
       end w t true last p h q =
           let rest = rw (eqb-true last (length s) p, drop-length s, append-nil) at (h .bytes) in
@@ -62,20 +63,20 @@ module _ (names : List Name) (n : ℕ) (s : List ℕ) where
           }
 
       go : (r : Read) → Sound names n s choice 0 r → wholly (length s) r ≡ Set v u next
-          → Means names n s v u
+          → ConditionMeans names n s v u
       go Nothing h q = absurd (let z : _≡_ {A = ℕ} 0 1 = cc in omega arith)
       go (Set w t last) h q = end w t (eqb last (length s)) last refl h q
 
   -- Where nothing is read, no condition writes the bytes.
   pub nothing-read : conditionOf names n s ≡ Nothing → (v : ℕ) (u : Bool)
-      → Means names n s v u → ⊥
+      → ConditionMeans names n s v u → ⊥
   nothing-read e v u m =
       let read = means-read v u m in
       let z : _≡_ {A = ℕ} 0 1 = cc in
       omega arith
 
   -- The letters and the flag that bytes mean are the only ones.
-  pub means-unique : {v w : ℕ} {u t : Bool} → Means names n s v u → Means names n s w t
+  pub means-unique : {v w : ℕ} {u t : Bool} → ConditionMeans names n s v u → ConditionMeans names n s w t
       → (v ≡ w) × (u ≡ t)
   means-unique {v} {w} {u} {t} a b =
       let first = means-read v u a in
@@ -84,18 +85,18 @@ module _ (names : List Name) (n : ℕ) (s : List ℕ) where
 
   -- The code gives letters exactly where the bytes are a condition over known names, and at most 8
   -- parentheses are open.
-  judge-good : (v : ℕ) → judge names n s ≡ Letters v → Shallow s × Means names n s v false
+  judge-good : (v : ℕ) → judge names n s ≡ Letters v → Shallow s × ConditionMeans names n s v false
   unfolding judge
   judge-good v e = go (deep 0 0 s) (conditionOf names n s) refl refl e
     where
       flagged : (w : ℕ) (u : Bool) → cond u (Refused 13) (Letters w) ≡ Letters v
-          → Means names n s w u → Means names n s v false
+          → ConditionMeans names n s w u → ConditionMeans names n s v false
       flagged w true q m = absurd (let z : _≡_ {A = ℕ} 0 1 = cc in omega arith)
       flagged w false q m =
           record { tree = m .tree; bytes = m .bytes; letters = m .letters ∙ (cc); flag = m .flag }
 
       go : (t : Bool) (r : Read) → deep 0 0 s ≡ t → conditionOf names n s ≡ r
-          → cond t (Refused 11) (verdictOf r) ≡ Letters v → Shallow s × Means names n s v false
+          → cond t (Refused 11) (verdictOf r) ≡ Letters v → Shallow s × ConditionMeans names n s v false
       go true r d p q = absurd (let z : _≡_ {A = ℕ} 0 1 = cc in omega arith)
       go false Nothing d p q = absurd (let z : _≡_ {A = ℕ} 0 1 = cc in omega arith)
       go false (Set w u next) d p q = (deep-false s d, flagged w u q (read-means w u next p))
@@ -103,15 +104,15 @@ module _ (names : List Name) (n : ℕ) (s : List ℕ) where
   pub judge-shallow : (v : ℕ) → judge names n s ≡ Letters v → Shallow s
   judge-shallow v e = judge-good v e .0
 
-  pub judge-letters : (v : ℕ) → judge names n s ≡ Letters v → Means names n s v false
+  pub judge-letters : (v : ℕ) → judge names n s ≡ Letters v → ConditionMeans names n s v false
   judge-letters v e = judge-good v e .1
 
-  pub judge-means : (v : ℕ) → Shallow s → Means names n s v false → judge names n s ≡ Letters v
+  pub judge-means : (v : ℕ) → Shallow s → ConditionMeans names n s v false → judge names n s ≡ Letters v
   unfolding judge
   judge-means v h m = rw (shallow-false s h, means-read v false m)
 
 -- Two trees with the same bytes hold at the same letters, and have the same flag.
-module _ (names : List Name) (c d : Cond choice) (same : text c ≡ text d) where
+module _ (names : List Name) (c d : Condition choice) (same : text c ≡ text d) where
   trees-unique : (n : ℕ) → (setOf n (holdsAt names c) ≡ setOf n (holdsAt names d))
       × (unknown names c ≡ unknown names d)
   trees-unique n =

@@ -11,9 +11,10 @@ use mathlib.Core.Path.{_≡_, refl, sym}
 use lib.Dec.{eqb, ltb}
 use lib.ListN.{length, getD, take, drop, drop-of-length-le}
 use lib.Seq.{drop-cons}
-use Rattle.text.specs.Split.{count}
+use Rattle.text.specs.Lines.{count}
 use Rattle.conditions.specs.Bytes.{opening, closing}
-use Rattle.conditions.specs.Depth.{one, Shallow, TooDeep, deep}
+use Rattle.conditions.specs.inner.Judge.{one, deep}
+use Rattle.conditions.specs.Depth.{Shallow, TooDeep}
 
 count-cons : (b x : ℕ) (xs : List ℕ) → count b (x ∷ xs) ≡ one x b + count b xs
 unfolding count

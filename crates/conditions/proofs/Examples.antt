@@ -8,8 +8,7 @@ use Rattle.letters.specs.Lists.{sameBytes}
 use Rattle.table.specs.Name.{letterRun}
 use Rattle.conditions.specs.Bytes.{'|', '&', '!', opening, closing}
 use Rattle.conditions.specs.Condition.{nameOf, place}
-use Rattle.conditions.specs.Depth.{deep}
-use Rattle.conditions.specs.Judge.{judge}
+use Rattle.conditions.specs.inner.Judge.{deep, judge}
 use Rattle.conditions.specs.inner.Reading.{isAt, nameAt, digitAt, reads, conditionOf}
 use Rattle.conditions.specs.declared.Judged.{Judged}
 use Rattle.conditions.specs.declared.Judged.the-variants.{Letters, Refused}

@@ -7,38 +7,38 @@ use mathlib.Core.Logic.{_⊎_, inl, inr}
 use mathlib.Core.Path.{_≡_, refl, sym, _∙_}
 use Rattle.letters.proofs.Sets.{setOf-lt}
 use Rattle.table.specs.declared.Name.{Name}
-use Rattle.conditions.specs.Condition.{holdsAt, Means}
-use Rattle.conditions.specs.Depth.{Shallow, deep}
-use Rattle.conditions.specs.Judge.{Right, is11, is12, is13, good, verdictOf, judge}
+use Rattle.conditions.specs.Condition.{holdsAt, ConditionMeans}
+use Rattle.conditions.specs.Depth.{Shallow}
+use Rattle.conditions.specs.inner.Judge.{deep, verdictOf, judge}
+use Rattle.conditions.specs.Judge.{RightCondition, is11, is12, is13, isSet}
 use Rattle.conditions.specs.inner.Reading.{conditionOf}
 use Rattle.conditions.specs.declared.Read.{Read}
 use Rattle.conditions.specs.declared.Read.the-variants.{Set, Nothing}
 use Rattle.conditions.specs.declared.Judged.{Judged}
 use Rattle.conditions.specs.declared.Judged.the-variants.{Letters, Refused}
-use Rattle.conditions.proofs.Conditions.{read-means, nothing-read, means-read}
-use Rattle.conditions.proofs.Conditions.{judge-letters}
+use Rattle.conditions.proofs.Conditions.{read-means, nothing-read, means-read, judge-letters}
 use Rattle.conditions.proofs.Depth.{deep-true, deep-false, shallow-false, too-deep-true}
 
 module _ (names : List Name) (n : ℕ) (xs : List ℕ) where
-  pub judge-right : Right names n xs (judge names n xs)
+  pub judge-right : RightCondition names n xs (judge names n xs)
   unfolding judge
   judge-right = go (deep 0 0 xs) refl
     where
-      flagged : (v : ℕ) (u : Bool) → Shallow xs → Means names n xs v u
-          → Right names n xs (cond u (Refused 13) (Letters v))
+      flagged : (v : ℕ) (u : Bool) → Shallow xs → ConditionMeans names n xs v u
+          → RightCondition names n xs (cond u (Refused 13) (Letters v))
       flagged v true h m = is13 h m
-      flagged v false h m = good h m
+      flagged v false h m = isSet (record { shallow = h; means = m })
 
-      read : (r : Read) → conditionOf names n xs ≡ r → Shallow xs → Right names n xs (verdictOf r)
+      read : (r : Read) → conditionOf names n xs ≡ r → Shallow xs → RightCondition names n xs (verdictOf r)
       read (Set v u next) e h = flagged v u h (read-means names n xs v u next e)
       read Nothing e h = is12 h (nothing-read names n xs e)
 
       go : (t : Bool) → deep 0 0 xs ≡ t
-          → Right names n xs (cond t (Refused 11) (verdictOf (conditionOf names n xs)))
+          → RightCondition names n xs (cond t (Refused 11) (verdictOf (conditionOf names n xs)))
       go true e = is11 (deep-true xs e)
       go false e = read (conditionOf names n xs) refl (deep-false xs e)
 
-  right-judge : (r : Judged) → Right names n xs r → judge names n xs ≡ r
+  pub right-judge : (r : Judged) → RightCondition names n xs r → judge names n xs ≡ r
   unfolding judge
   right-judge r (is11 h) = rw (too-deep-true xs h)
   right-judge r (is12 h none) = rw (shallow-false xs h) (go (conditionOf names n xs) refl)
@@ -47,9 +47,10 @@ module _ (names : List Name) (n : ℕ) (xs : List ℕ) where
       go (Set v u next) e = absurd (none v u (read-means names n xs v u next e))
       go Nothing e = refl
   right-judge r (is13 {v} h m) = rw (shallow-false xs h, means-read names n xs v true m)
-  right-judge r (good {v} h m) = rw (shallow-false xs h, means-read names n xs v false m)
+  right-judge r (isSet {v} c) =
+      rw (shallow-false xs (c .shallow), means-read names n xs v false (c .means))
 
-  pub right-unique : {a b : Judged} → Right names n xs a → Right names n xs b → a ≡ b
+  pub right-unique : {a b : Judged} → RightCondition names n xs a → RightCondition names n xs b → a ≡ b
   right-unique {a} {b} h g = sym (right-judge a h) ∙ right-judge b g
 
   -- The numbers that a condition can get.
@@ -57,12 +58,12 @@ module _ (names : List Name) (n : ℕ) (xs : List ℕ) where
       → (m ≡ 11) ⊎ ((m ≡ 12) ⊎ (m ≡ 13))
   judge-number m e = go (judge names n xs) judge-right e
     where
-      go : (r : Judged) → Right names n xs r → r ≡ Refused m
+      go : (r : Judged) → RightCondition names n xs r → r ≡ Refused m
           → (m ≡ 11) ⊎ ((m ≡ 12) ⊎ (m ≡ 13))
       go r (is11 h) q = inl (cc)
       go r (is12 h none) q = inr (inl (cc))
       go r (is13 h m) q = inr (inr (cc))
-      go r (good h m) q = absurd (let z : _≡_ {A = ℕ} 0 1 = cc in omega arith)
+      go r (isSet c) q = absurd (let z : _≡_ {A = ℕ} 0 1 = cc in omega arith)
 
   pub judge-some : (m : ℕ) → judge names n xs ≡ Refused m → (m ≡ 0 → ⊥)
   judge-some m e z = go (judge-number m e)

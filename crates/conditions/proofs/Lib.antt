@@ -20,5 +20,7 @@ pub mod Steps
 pub mod Conditions
 -- The answer is right, no other is, its number is 11, 12 or 13, and its set is below 2^n.
 pub mod Judging
+-- Signs: the bytes that conditions are made of.
+pub mod Signs
 -- Inputs of document 01, computed.
 pub mod Examples

@@ -15,13 +15,12 @@ use Rattle.letters.proofs.Sets.{setOf-or, setOf-and, setOf-others, setOf-false}
 use Rattle.table.specs.Name.{letterRun}
 use Rattle.table.specs.declared.Name.{Name}
 use Rattle.conditions.specs.Bytes.{'|', '&', '!', '0', '1', opening, closing}
-use Rattle.conditions.specs.Condition.{Kind, choice, term, factor, Cond, text}
-use Rattle.conditions.specs.Condition.{nameOf, place, holdsAt, unknown}
-use Rattle.conditions.specs.Condition.Cond.{oneTerm, or, oneFactor, and, negated, named}
-use Rattle.conditions.specs.Condition.Cond.{never, always, grouped}
+use Rattle.conditions.specs.Condition.{Kind, choice, term, factor, Condition, text, nameOf}
+use Rattle.conditions.specs.Condition.{place, holdsAt, unknown}
+use Rattle.conditions.specs.Condition.Condition.{oneTerm, or, oneFactor, and, negated, named}
+use Rattle.conditions.specs.Condition.Condition.{never, always, grouped}
 use Rattle.conditions.specs.inner.Reading.{isAt, joined, others, closed, followed, signal}
-use Rattle.conditions.specs.inner.Reading.{nameAt}
-use Rattle.conditions.specs.inner.Reading.{digitAt, reads}
+use Rattle.conditions.specs.inner.Reading.{nameAt, digitAt, reads}
 use Rattle.conditions.specs.declared.Read.{Read}
 use Rattle.conditions.specs.declared.Read.the-variants.{Set, Nothing}
 use Rattle.conditions.proofs.Bytes.{isAt-cons, isAt-lt}
@@ -30,7 +29,7 @@ use Rattle.conditions.proofs.Names.{letterRun-le, letterRun-every}
 -- The bytes from one place to another are written by a condition with that set and flag.
 pub record Wrote (names : List Name) (n : ℕ) (s : List ℕ) (k : Kind) (at v : ℕ) (u : Bool)
     (next : ℕ) : Type 0 where
-  pub tree : Cond k
+  pub tree : Condition k
   pub starts : at < next
   pub ends : next ≤ length s
   pub bytes : drop at s ≡ text tree ++ drop next s

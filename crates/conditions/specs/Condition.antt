@@ -23,18 +23,18 @@ pub record IsName (w : List ℕ) : Type 0 where
 pub data Kind : Type 0 where
   choice term factor : Kind
 
-pub data Cond : Kind → Type 0 where
-  oneTerm : Cond term → Cond choice
-  or : Cond term → Cond choice → Cond choice
-  oneFactor : Cond factor → Cond term
-  and : Cond factor → Cond term → Cond term
-  negated : Cond factor → Cond factor
-  named : (w : List ℕ) → IsName w → Cond factor
-  never always : Cond factor
-  grouped : Cond choice → Cond factor
+pub data Condition : Kind → Type 0 where
+  oneTerm : Condition term → Condition choice
+  or : Condition term → Condition choice → Condition choice
+  oneFactor : Condition factor → Condition term
+  and : Condition factor → Condition term → Condition term
+  negated : Condition factor → Condition factor
+  named : (w : List ℕ) → IsName w → Condition factor
+  never always : Condition factor
+  grouped : Condition choice → Condition factor
 
 -- The bytes of a condition.
-unfoldable pub text : {k : Kind} → Cond k → List ℕ
+unfoldable pub text : {k : Kind} → Condition k → List ℕ
 text (oneTerm t) = text t
 text (or t c) = text t ++ '|' ∷ text c
 text (oneFactor f) = text f
@@ -56,7 +56,7 @@ place (first ∷ names) name = cond (sameName name first) 0 (suc (place names na
 
 module _ (names : List Name) where
   -- Whether a condition holds at a letter: the k-th name is signal k.
-  unfoldable pub holdsAt : {k : Kind} → Cond k → ℕ → Bool
+  unfoldable pub holdsAt : {k : Kind} → Condition k → ℕ → Bool
   holdsAt (oneTerm t) l = holdsAt t l
   holdsAt (or t c) l = holdsAt t l || holdsAt c l
   holdsAt (oneFactor f) l = holdsAt f l
@@ -68,7 +68,7 @@ module _ (names : List Name) where
   holdsAt (grouped c) l = holdsAt c l
 
   -- Whether a condition has an unknown name.
-  unfoldable pub unknown : {k : Kind} → Cond k → Bool
+  unfoldable pub unknown : {k : Kind} → Condition k → Bool
   unknown (oneTerm t) = unknown t
   unknown (or t c) = unknown t || unknown c
   unknown (oneFactor f) = unknown f
@@ -81,8 +81,8 @@ module _ (names : List Name) where
 
   -- The bytes xs are a condition that holds at the letters of the set v, of the first n letters; u
   -- says whether a name in it is unknown.
-  pub record Means (n : ℕ) (xs : List ℕ) (v : ℕ) (u : Bool) : Type 0 where
-    pub tree : Cond choice
+  pub record ConditionMeans (n : ℕ) (xs : List ℕ) (v : ℕ) (u : Bool) : Type 0 where
+    pub tree : Condition choice
     pub bytes : text tree ≡ xs
     pub letters : setOf n (holdsAt tree) ≡ v
     pub flag : unknown tree ≡ u

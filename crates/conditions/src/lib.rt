@@ -4,17 +4,14 @@ use table::MOST_SIGNALS;
 use table::NAME_LETTERS;
 use table::Name;
 ghost use mathlib.Core.Path.{_≡_};
-ghost use mathlib.Core.Bool.{_||_};
-ghost use lib.ListN.{length, take, drop};
+ghost use lib.ListN.{take, drop};
 ghost use lib.Bits.{bitAnd, bitOr};
 ghost use Rattle.letters.specs.Letter.{width};
 ghost use Rattle.table.specs.Name.{letterRun};
 ghost use Rattle.conditions.specs.Condition.{nameOf, place, Kind};
-ghost use Rattle.conditions.specs.Depth.{one, deep};
-ghost use Rattle.conditions.specs.Judge.{verdictOf, judge};
+ghost use Rattle.conditions.specs.inner.Judge.{one, deep, verdictOf, judge};
 ghost use Rattle.conditions.specs.inner.Reading.{isAt, nameAt, digitAt, joined, others};
-ghost use Rattle.conditions.specs.inner.Reading.{closed};
-ghost use Rattle.conditions.specs.inner.Reading.{Meant, wholly, conditionOf};
+ghost use Rattle.conditions.specs.inner.Reading.{closed, Meant, wholly, conditionOf};
 
 // What was read: the set of letters, whether a name is unknown, and the place past it; or nothing.
 pub enum Read {

@@ -22,13 +22,16 @@ use Rattle.watcher.specs.Watch.{phasesOf, startWatch}
 use Rattle.table.specs.Refusal.{numberOf}
 use Rattle.text.specs.Bounds.{decimal}
 use Rattle.text.specs.Lines.{ended}
-use Rattle.reader.specs.File.{refusedFile, readAnswer}
-use Rattle.reader.specs.Grammar.{IsFile, accepted}
-use Rattle.search.specs.Answer.{Lent, Searched, roomOf, systemOf, traced}
-use Rattle.search.specs.Answer.{soundFound, trappedFound}
+use Rattle.reader.specs.Reading.{accepted, refusedFile}
+use Rattle.reader.specs.Grammar.{IsFile}
+use Rattle.reader.specs.Right.{RightReading}
+use Rattle.reader.specs.inner.File.{readAnswer}
+use Rattle.reader.specs.declared.Reading.{Reading as FileReading}
+use Rattle.reader.proofs.Found as Found
+use Rattle.reader.proofs.Only as Only
+use Rattle.search.specs.Answer.{Lent, Searched, roomOf, systemOf, traced, soundFound, trappedFound}
 use Rattle.search.specs.inner.Computed.{searchAnswer}
-use Rattle.search.specs.declared.Verdict.the-variants.{Sound as SaysSound}
-use Rattle.search.specs.declared.Verdict.the-variants.{Trapped as SaysTrapped}
+use Rattle.search.specs.declared.Verdict.the-variants.{Sound as SaysSound, Trapped as SaysTrapped}
 use Rattle.demands.specs.Watching.{recordAfter, Accepted}
 use Rattle.demands.specs.Searching.{Dead, Shown, CanGoOn, Fit, Entered, RightAnswer}
 use Rattle.demands.specs.Searching.{SameLengths, SameScratch}
@@ -43,6 +46,14 @@ use Rattle.demands.proofs.WatchLaws as WatchLaws
 use Rattle.demands.proofs.SearchLaws as SearchLaws
 use Rattle.demands.proofs.Alike as Alike
 use Rattle.demands.proofs.Described as Described
+
+-- Demand 1, for the reader: any bytes have one of the answers of `RightReading`, a table or a
+-- refusal by the first fitting number, and what it says is so; and no other answer says what is so.
+pub read-answered : (bytes : List ℕ) → RightReading bytes (readAnswer bytes)
+read-answered = Found.read-answered
+
+pub read-only : (bytes : List ℕ) (r : FileReading) → RightReading bytes r → readAnswer bytes ≡ r
+read-only = Only.read-only
 
 -- Demand 2: "The reader accepts exactly the tables that document 01 describes, keeps each name and
 -- bound and gives each condition its meaning" (`IsFile`),

@@ -8,27 +8,24 @@ use Rattle.letters.proofs.Sets.{in-setOf}
 use Rattle.table.specs.Valid.{tableFits}
 use Rattle.table.specs.declared.Name.{Name}
 use Rattle.table.specs.declared.Table.{Table}
-use Rattle.text.specs.Bounds.{IsBound, boundOf}
+use Rattle.text.specs.Bounds.{IsBound}
+use Rattle.text.specs.inner.Bounds.{boundOf}
 use Rattle.text.specs.declared.Bound.the-variants.{Value}
 use Rattle.text.proofs.Bounds.{boundOf-right, boundOf-complete}
-use Rattle.conditions.specs.Condition.{Cond, choice, text, holdsAt}
-use Rattle.conditions.specs.Judge.{Right, judge}
+use Rattle.conditions.specs.Condition.{Condition, choice, text, holdsAt}
+use Rattle.conditions.specs.Judge.{IsCondition, RightCondition}
+use Rattle.conditions.specs.inner.Judge.{judge}
 use Rattle.conditions.specs.declared.Judged.{Judged}
 use Rattle.conditions.proofs.Conditions.{trees-letters}
 use Rattle.conditions.proofs.Judging as Judging
-use Rattle.reader.specs.File.{readAnswer}
-use Rattle.reader.specs.Grammar.{IsCondition, IsFile, Answered, accepted}
+use Rattle.reader.specs.inner.File.{readAnswer}
+use Rattle.reader.specs.Grammar.{IsFile}
+use Rattle.reader.specs.Reading.{accepted}
 use Rattle.reader.specs.Witness.{Sized, Witnessed}
 use Rattle.reader.specs.declared.Reading.{Reading}
 use Rattle.reader.proofs.Accepted as Accepting
-use Rattle.reader.proofs.Answers as Answers
 use Rattle.reader.proofs.Fits as Fits
 use Rattle.reader.proofs.Witness as Witness
-
--- The reader. Demand 1: any bytes are accepted with a table, or refused with a number, its line and
--- an empty table.
-pub read-answered : (bytes : List ℕ) → Answered (readAnswer bytes)
-read-answered = Answers.read-answered
 
 -- Demand 2: "the reader accepts exactly the tables that document 01 describes, keeps each name and
 -- bound and gives each condition its meaning". No bytes have two tables, and each table is one that
@@ -56,7 +53,7 @@ fits-witnessed = Witness.fits-witnessed
 -- A letter is in a condition's set exactly where the condition holds, whichever tree its bytes are
 -- read as.
 pub condition-meaning : (names : List Name) (n : ℕ) (xs : List ℕ) (set : ℕ)
-    → IsCondition names n xs set → (tree : Cond choice) → text tree ≡ xs → (l : ℕ) → l < n
+    → IsCondition names n xs set → (tree : Condition choice) → text tree ≡ xs → (l : ℕ) → l < n
     → inSet set l ≡ holdsAt names tree l
 condition-meaning names n xs set c tree e l low =
     let m = c .means in
@@ -67,10 +64,10 @@ condition-meaning names n xs set c tree e l low =
 -- "11, 12, 13 over the whole condition": what is said of a condition is right, and nothing else is;
 -- and a bound is one of the texts `0` to `60`.
 module _ (names : List Name) (n : ℕ) (xs : List ℕ) where
-  pub judge-right : Right names n xs (judge names n xs)
+  pub judge-right : RightCondition names n xs (judge names n xs)
   judge-right = Judging.judge-right names n xs
 
-  pub right-unique : {a b : Judged} → Right names n xs a → Right names n xs b → a ≡ b
+  pub right-unique : {a b : Judged} → RightCondition names n xs a → RightCondition names n xs b → a ≡ b
   right-unique = Judging.right-unique names n xs
 
 pub bound-right : (xs : List ℕ) (n : ℕ) → boundOf xs ≡ Value n → IsBound xs n

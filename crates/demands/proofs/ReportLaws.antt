@@ -14,15 +14,16 @@ use Rattle.traces.specs.Trace.{AllBelow}
 use Rattle.traces.specs.Verdict.{ReachedMany, Trapped, Sound}
 use Rattle.text.specs.Bounds.{decimal}
 use Rattle.text.specs.Lines.{ended}
-use Rattle.reader.specs.File.{readAnswer, refusedFile}
+use Rattle.reader.specs.inner.File.{readAnswer}
+use Rattle.reader.specs.Reading.{refusedFile}
 use Rattle.reader.specs.Grammar.{IsFile}
 use Rattle.reader.proofs.Accepted.{file-accepted}
 use Rattle.reader.proofs.Fits.{file-fits}
 use Rattle.search.specs.Answer.{Lent, Searched, roomOf, systemOf}
 use Rattle.search.specs.inner.Computed.{searchAnswer}
 use Rattle.report.specs.Report.{heading, refusedLine, sizeLines, soundLine, trappedLine, tickLines}
-use Rattle.report.specs.declared.Answer.{Answer as Told}
 use Rattle.report.specs.Report.{lostWord, reportLines, traceLength, Shows}
+use Rattle.report.specs.declared.Answer.{Answer as Told}
 use Rattle.checker.specs.Answer.{sizeOf, answerOf, checkAnswer, programLent}
 use Rattle.demands.specs.Searching.{Fit}
 use Rattle.demands.specs.inner.Answers.{ComputedAnswer}

@@ -8,7 +8,8 @@ use Rattle.table.specs.declared.Table.{Table}
 use Rattle.traces.specs.Verdict.{ReachedMany, Trapped, Sound}
 use Rattle.text.specs.Bounds.{decimal}
 use Rattle.text.specs.Lines.{ended}
-use Rattle.reader.specs.File.{refusedFile, readAnswer}
+use Rattle.reader.specs.Reading.{refusedFile}
+use Rattle.reader.specs.inner.File.{readAnswer}
 use Rattle.reader.specs.Grammar.{IsFile}
 use Rattle.search.specs.Answer.{Lent, roomOf, systemOf}
 use Rattle.search.specs.inner.Computed.{searchAnswer}

@@ -7,8 +7,8 @@ use Rattle.table.specs.Valid.{rowsOf}
 use Rattle.table.specs.declared.Row.{Row}
 use Rattle.table.specs.declared.Table.{Table}
 use Rattle.text.specs.Lines.{ended}
-use Rattle.reader.specs.File.{readAnswer}
-use Rattle.reader.specs.Grammar.{accepted}
+use Rattle.reader.specs.inner.File.{readAnswer}
+use Rattle.reader.specs.Reading.{accepted}
 
 -- `PNP 0001`.
 abbrev header : List ℕ

@@ -11,7 +11,8 @@ use lib.Seq.{drop-cons, take-all}
 use Rattle.letters.specs.Lists.{every, sameBytes}
 use Rattle.letters.proofs.Lists.{and-left, and-right}
 use Rattle.table.specs.Name.{isLetter}
-use Rattle.header.specs.Header.{isDigit16, PNP, version1, headerNumber, isName}
+use Rattle.header.specs.Header.{isDigit16, PNP, version1}
+use Rattle.header.specs.inner.Header.{headerNumber, nameShaped}
 use Rattle.text.proofs.Parts.{rest-whole}
 
 regroup : (a b c d : Bool) → (a && (b && (c && (d && true)))) ≡ (a && b && c && d)
@@ -67,24 +68,24 @@ module _ (l : List ℕ) where
 
 -- A name: not without letters, not over eight, and not with another byte.
 module _ (w : List ℕ) where
-  pub name-none : length w ≡ 0 → isName w ≡ false
-  unfolding isName
+  pub name-none : length w ≡ 0 → nameShaped w ≡ false
+  unfolding nameShaped
   name-none e = rw (lt-leb 1 (length w) (omega arith))
 
-  pub name-long : 8 < length w → isName w ≡ false
-  unfolding isName
+  pub name-long : 8 < length w → nameShaped w ≡ false
+  unfolding nameShaped
   name-long h = rw (lt-leb (length w) 8 h, and-false (leb 1 (length w)))
 
-  pub name-other : every isLetter w ≡ false → isName w ≡ false
-  unfolding isName
+  pub name-other : every isLetter w ≡ false → nameShaped w ≡ false
+  unfolding nameShaped
   name-other h = rw (h, and-false (leb 1 (length w) && leb (length w) 8))
 
   pub name-is : (length w ≡ 0 → ⊥) → length w ≤ 8 → every isLetter w ≡ true
-      → isName w ≡ true
-  unfolding isName
+      → nameShaped w ≡ true
+  unfolding nameShaped
   name-is some few h = rw (le-leb 1 (length w) (omega arith), le-leb (length w) 8 few, h)
 
-pub name-short : (w : List ℕ) → isName w ≡ true → length w ≤ 8
-unfolding isName
+pub name-short : (w : List ℕ) → nameShaped w ≡ true → length w ≤ 8
+unfolding nameShaped
 name-short w h = leb-true (length w) 8
     (and-right (leb 1 (length w)) _ (and-left (leb 1 (length w) && leb (length w) 8) _ h))

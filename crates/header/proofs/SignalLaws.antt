@@ -8,8 +8,7 @@ use mathlib.Core.List.{List, [], _∷_, _++_, map, map-append, append-assoc, app
 use mathlib.Core.Path.{_≡_, refl, sym, ap, ap₂, _∙_}
 use borrow.Author.Tests.{le-leb, lt-leb, lt-ltb, le-ltb}
 use lib.Dec.{leb, ltb, eqb·suc-zero}
-use lib.ListN.{length, take, drop, set, replicate, length-append, length-map}
-use lib.ListN.{drop-of-length-le}
+use lib.ListN.{length, take, drop, set, replicate, length-append, length-map, drop-of-length-le}
 use lib.Seq.{drop-cons, drop-drop, drop-length, take-append-le, set-at, take-append-add}
 use lib.Seq.{drop-append-seam, append-snoc, take-at}
 use Rattle.letters.specs.Lists.{every, sameBytes}
@@ -17,14 +16,16 @@ use Rattle.letters.proofs.Lists.{every-append, sameBytes-refl}
 use Rattle.table.specs.Limits.{mostSignals}
 use Rattle.table.specs.Name.{allDistinct}
 use Rattle.table.specs.declared.Name.{Name}
-use Rattle.text.specs.Split.{count, split, front, behind}
-use Rattle.text.proofs.Splits.{front-whole, split-front, split-cons, front-behind}
+use Rattle.text.specs.Lines.{count}
+use Rattle.text.specs.inner.Cut.{split, front, after}
+use Rattle.text.proofs.Splits.{front-whole, split-front, split-cons, front-after}
 use Rattle.conditions.specs.Condition.{nameOf}
-use Rattle.header.specs.Header.{signalsWord, isName, noName, namesFrom, signalsNumber}
-use Rattle.header.specs.Header.{signalsRefused, signalsAnswer}
+use Rattle.header.specs.Header.{signalsWord, noName, namesFrom}
+use Rattle.header.specs.inner.Header.{nameShaped, signalsNumber, signalsRefused}
+use Rattle.header.specs.inner.Header.{signalsAnswer}
 use Rattle.header.specs.inner.Gathering.{nameAdded}
 
--- The words behind a word that has ended: nothing is left, or a separator and words.
+-- The words after a word that has ended: nothing is left, or a separator and words.
 unfoldable pub wordsAfter : ℕ → List ℕ → List (List ℕ)
 wordsAfter b [] = []
 wordsAfter b (x ∷ xs) = split b xs
@@ -39,8 +40,8 @@ split-words b xs = go (decLe 1 (count b xs))
     go (yes h) =
         split-cons b xs h ∙ ap (λ (ws : List (List ℕ)). front b xs ∷ ws)
         (sym (ap (λ (ys : List ℕ). wordsAfter b (drop (length (front b xs)) ys))
-        (sym (front-behind b xs h))
-        ∙ ap (wordsAfter b) (drop-append-seam (front b xs) (b ∷ behind b xs))))
+        (sym (front-after b xs h))
+        ∙ ap (wordsAfter b) (drop-append-seam (front b xs) (b ∷ after b xs))))
     go (no h) =
         let none : count b xs ≡ 0 = omega arith in
         split-front b xs none ∙ sym (rw (front-whole b xs none, drop-length xs))
@@ -131,7 +132,7 @@ kept-added ws w = go (decLt (length ws) mostSignals)
 pub record Naming (line : List ℕ) (done : List (List ℕ)) (names : List Name) (n at : ℕ) : Type 0
   where
     pub words : wordsAfter 32 (drop 7 line) ≡ done ++ wordsAfter 32 (drop at line)
-    pub right : every isName done ≡ true
+    pub right : every nameShaped done ≡ true
     pub many : length done ≡ n
     pub kept : names ≡ keptOf done
 
@@ -159,7 +160,7 @@ module _ (l : List ℕ) (first : front 32 l ≡ signalsWord) where
   abbrev ws : List (List ℕ)
   ws = wordsAfter 32 (drop 7 l)
 
-  pub answer-name : every isName ws ≡ false → signalsAnswer (split 32 l) ≡ signalsRefused 6
+  pub answer-name : every nameShaped ws ≡ false → signalsAnswer (split 32 l) ≡ signalsRefused 6
   unfolding signalsNumber
   answer-name e = rw words-are (answer-refused (signalsWord ∷ ws) 5
       (rw (e, and-false (sameBytes signalsWord signalsWord && leb 1 (length ws)))))
@@ -168,7 +169,7 @@ module _ (l : List ℕ) (first : front 32 l ≡ signalsWord) where
   unfolding signalsNumber sameBytes
   answer-none e = rw (words-are, e) (answer-refused (signalsWord ∷ []) 5 refl)
 
-  module _ (right : every isName ws ≡ true) where
+  module _ (right : every nameShaped ws ≡ true) where
     pub answer-many : mostSignals < length ws → signalsAnswer (split 32 l) ≡ signalsRefused 7
     unfolding signalsNumber
     answer-many h =
@@ -219,12 +220,12 @@ naming-starts line = record { words = refl; right = refl; many = refl; kept = re
 module _ (line : List ℕ) (done : List (List ℕ)) (names : List Name) (n at : ℕ)
     (p : Naming line done names n at) where
   -- a word that is no name
-  pub naming-stops : at < length line → isName (front 32 (drop (at + 1) line)) ≡ false
-      → every isName (wordsAfter 32 (drop 7 line)) ≡ false
+  pub naming-stops : at < length line → nameShaped (front 32 (drop (at + 1) line)) ≡ false
+      → every nameShaped (wordsAfter 32 (drop 7 line)) ≡ false
   unfolding every
   naming-stops h e =
-      rw (p .words, words-next 32 line at h, every-append isName done _, e)
-      (and-false (every isName done))
+      rw (p .words, words-next 32 line at h, every-append nameShaped done _, e)
+      (and-false (every nameShaped done))
 
   -- all words are read
   pub naming-ends : length line ≤ at → wordsAfter 32 (drop 7 line) ≡ done
@@ -232,14 +233,14 @@ module _ (line : List ℕ) (done : List (List ℕ)) (names : List Name) (n at : 
 
   -- one name more
   pub naming-next : at < length line → let word = front 32 (drop (at + 1) line) in
-      isName word ≡ true → Naming line (done ++ (word ∷ [])) (nameAdded names n (nameOf word))
+      nameShaped word ≡ true → Naming line (done ++ (word ∷ [])) (nameAdded names n (nameOf word))
       (n + 1) (at + 1 + length word)
   unfolding every
   naming-next h e =
       let word = front 32 (drop (at + 1) line) in
       record {
         words = p .words ∙ rw (words-next 32 line at h) (sym (append-assoc done (word ∷ []) _));
-        right = rw (every-append isName done (word ∷ []), p .right, e);
+        right = rw (every-append nameShaped done (word ∷ []), p .right, e);
         many = length-append done (word ∷ []) ∙ omega (arith, p .many);
         kept = ap₂ (λ (l : List Name) (k : ℕ). nameAdded l k (nameOf word)) (p .kept)
             (sym (p .many)) ∙ kept-added done word;
@@ -256,7 +257,7 @@ module _ (line : List ℕ) (first : front 32 line ≡ signalsWord) (done : List 
   all : wordsAfter 32 (drop 7 line) ≡ done
   all = naming-ends line done names n at p end
 
-  all-right : every isName (wordsAfter 32 (drop 7 line)) ≡ true
+  all-right : every nameShaped (wordsAfter 32 (drop 7 line)) ≡ true
   all-right = rw all (p .right)
 
   all-many : length (wordsAfter 32 (drop 7 line)) ≡ n

@@ -1,3 +1,3 @@
--- Lines 1 and 2: `Header` has numbers 4 to 8, and what line 2 gives.
+-- Lines 1 and 2: `Header` says what is right of them.
 pub mod Header
 pub mod inner

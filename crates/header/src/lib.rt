@@ -4,12 +4,11 @@ use table::MOST_SIGNALS;
 use table::NAME_LETTERS;
 use table::Name;
 ghost use mathlib.Core.Path.{_≡_};
-ghost use lib.ListN.{length, take, drop};
-ghost use Rattle.conditions.specs.Condition.{nameOf};
-ghost use Rattle.text.specs.Split.{split};
-ghost use Rattle.header.specs.Header.{isDigit16, headerNumber, isName};
+ghost use Rattle.text.specs.inner.Cut.{split};
+ghost use Rattle.header.specs.Header.{isDigit16};
+ghost use Rattle.header.specs.inner.Header.{headerNumber, nameShaped, signalsRefused};
+ghost use Rattle.header.specs.inner.Header.{signalsAnswer};
 ghost use Rattle.header.specs.inner.Gathering.{nameAdded};
-ghost use Rattle.header.specs.Header.{signalsRefused, signalsAnswer};
 
 // Line 2: its number, or 0; and the names, of which the first `count` are used. Under a number all
 // is 0.
@@ -51,7 +50,7 @@ pub fn check_header(line: &[u8]) -> u8
 
 // Whether bytes are a name: 1 to 8 letters a-z.
 fn is_name(s: &[u8]) -> bool
-    ensures { λ r. ⌜ r ≡ isName (now (s .entry)) ⌝ }
+    ensures { λ r. ⌜ r ≡ nameShaped (now (s .entry)) ⌝ }
 {
     if s.len() == 0 {
         return false;

@@ -1,32 +1,36 @@
 -- A table that was read is one that number 17 lets by. Assumes nothing.
 use Prim.Native.Nat.{ℕ, zero, suc, _-_, _^_, _<_, _≤_}
-use borrow.Author.Tests.{leb-true, le-leb, lt-ltb}
+use borrow.Author.Tests.{le-leb, lt-ltb}
 use native.Mathlib.Omega.{arith}
 use native.Mathlib.Nat.{lt-of-lt-of-le}
-use mathlib.Core.Bool.{Bool, true, _&&_}
-use mathlib.Core.List.{List, [], _∷_, map}
-use mathlib.Core.Path.{_≡_, refl}
-use lib.Dec.{leb}
-use lib.ListN.{length, replicate, length-map}
+use mathlib.Core.Bool.{Bool, true}
+use mathlib.Core.List.{List, map}
+use mathlib.Core.Path.{_≡_, refl, sym, subst}
+use lib.ListN.{length, getD, replicate, length-map}
 use lib.Pow.{pow-mono}
 use lib.Seq.{take-at, drop-at}
 use Rattle.letters.specs.Letter.{letters, width, setFits}
 use Rattle.letters.specs.Lists.{every}
-use Rattle.letters.proofs.Lists.{and-left, and-right, within-true}
+use Rattle.letters.proofs.Lists.{within-true}
 use Rattle.letters.proofs.Sets.{setOf-lt}
 use Rattle.table.specs.Limits.{mostSignals, mostRows, mostTicks}
 use Rattle.table.specs.Row.{rowFits, rowUnused}
-use Rattle.table.specs.Name.{isLetter, nameFits, nameUnused}
+use Rattle.table.specs.Name.{nameFits, nameUnused}
 use Rattle.table.specs.Valid.{rulesFit, namesFit, tableFits}
 use Rattle.table.specs.declared.Name.{Name}
 use Rattle.table.specs.declared.Row.{Row}
 use Rattle.table.specs.declared.Table.{Table}
 use Rattle.conditions.specs.Condition.{IsName, nameOf, holdsAt}
 use Rattle.conditions.proofs.Places.{nameOf-fits}
-use Rattle.header.specs.Header.{isName, noName, namesFrom}
-use Rattle.reader.specs.File.{noRule}
-use Rattle.reader.specs.Grammar.{Each, none, and, IsCondition, IsRow, IsFile}
-use Rattle.reader.proofs.Accepted.{names-taken}
+use Rattle.header.specs.Header.{noName, namesFrom}
+use Rattle.reader.specs.Reading.{zeroRow}
+use Rattle.reader.specs.Grammar.{Each, none, and, IsFile}
+use Rattle.reader.proofs.Only.{names-taken}
+use Rattle.text.specs.Lines.{All, none as all-none, and as all-and}
+use Rattle.conditions.specs.Judge.{IsCondition}
+use Rattle.rows.specs.Row.{FieldKind, condition, bound, fieldKinds, IsField, AreFields}
+use Rattle.rows.specs.Row.{none as nothing, and as also, rowValues, Ordered, IsRow}
+use Rattle.rows.proofs.Rules.{rowOf, row-same}
 
 -- Places that are not used.
 every-same : {A : Type 0} (test : A → Bool) (x : A) → test x ≡ true → (k : ℕ)
@@ -39,58 +43,73 @@ no-name : nameUnused noName ≡ true
 unfolding nameUnused every
 no-name = refl
 
-no-rule : rowUnused noRule ≡ true
+zero-row : rowUnused zeroRow ≡ true
 unfolding rowUnused every
-no-rule = refl
+zero-row = refl
 
 -- Names.
-is-name : (w : List ℕ) → isName w ≡ true → IsName w
-unfolding isName
-is-name w h =
-    let some = leb 1 (length w) in
-    let few = leb (length w) 8 in
-    let ab = and-left (some && few) (every isLetter w) h in
-    record {
-      some = leb-true 1 (length w) (and-left some few ab);
-      few = leb-true (length w) 8 (and-right some few ab);
-      letters = and-right (some && few) (every isLetter w) h;
-    }
-
-names-fit : (names : List (List ℕ)) → every isName names ≡ true
-    → every nameFits (map nameOf names) ≡ true
+names-fit : (names : List (List ℕ)) → All IsName names → every nameFits (map nameOf names) ≡ true
 unfolding every
-names-fit [] h = refl
-names-fit (w ∷ names) h =
-    rw (nameOf-fits w (is-name w (and-left (isName w) (every isName names) h)))
-    (names-fit names (and-right (isName w) (every isName names) h))
+names-fit names all-none = refl
+names-fit names (all-and {a} {more} h all) = rw (nameOf-fits a h) (names-fit more all)
 
 -- Rows.
 module _ (names : List Name) (s : ℕ) where
-  sets-fit : (texts : List (List ℕ)) (sets : List ℕ) → Each (IsCondition names (width s)) texts sets
-      → every (setFits s) sets ≡ true
-  unfolding every
-  sets-fit texts sets none = refl
-  sets-fit texts sets (and {a} {b} {l} {m} h more) =
-      rw (low b (rw (← h .means .letters) (setOf-lt (width s) (holdsAt names (h .means .tree)))))
-      (sets-fit l m more)
+  condition-fits : {xs : List ℕ} {v : ℕ} → IsCondition names (width s) xs v → setFits s v ≡ true
+  condition-fits {xs} {v} h =
+      low v (rw (← h .means .letters) (setOf-lt (width s) (holdsAt names (h .means .tree))))
     where
       low : (v : ℕ) → v < 2 ^ width s → setFits s v ≡ true
       low v h =
           lt-ltb v (2 ^ letters s)
           (lt-of-lt-of-le h (pow-mono {i = width s} {j = letters s} (omega arith)))
 
-  row-fits : (line : List ℕ) (row : Row) → IsRow names (width s) line row → rowFits s row ≡ true
-  unfolding rowFits
-  row-fits line row r =
+  -- What the kinds of its fields say of the values of a row.
+  abbrev Held : FieldKind → ℕ → Type 0
+  Held condition v = setFits s v ≡ true
+  Held bound v = v ≤ mostTicks
+
+  field-held : (kind : FieldKind) (xs : List ℕ) (v : ℕ) → IsField names (width s) kind xs v
+      → Held kind v
+  field-held condition xs v h = condition-fits h
+  field-held bound xs v h = h .small
+
+  fields-held : {kinds : List FieldKind} {fields : List (List ℕ)} {values : List ℕ}
+      → AreFields names (width s) kinds fields values → Each Held kinds values
+  fields-held nothing = none
+  fields-held (also {kind} {xs} {v} h more) = and (field-held kind xs v h) (fields-held more)
+
+  held-at : {kinds : List FieldKind} {values : List ℕ} → Each Held kinds values → (i : ℕ)
+      → i < length kinds → Held (getD kinds i bound) (getD values i 0)
+  held-at none i h = absurd (omega arith)
+  held-at (and h more) zero low = h
+  held-at (and h more) (suc i) low = held-at more i (omega arith)
+
+  values-fit : (values : List ℕ) → Each Held fieldKinds values → Ordered (rowOf values)
+      → rowFits s (rowOf values) ≡ true
+  unfolding rowFits every
+  values-fit values held o =
       rw (
-        le-leb (row .tmin) (row .tmax) (r .t-ordered),
-        le-leb (row .tmax) mostTicks (r .t-fits),
-        le-leb (row .lmin) (row .lmax) (r .l-ordered),
-        le-leb (row .lmax) mostTicks (r .l-fits),
-        le-leb (row .amin) (row .amax) (r .a-ordered),
-        le-leb (row .amax) mostTicks (r .a-fits),
+        le-leb (getD values 3 0) (getD values 4 0) (o .trigger),
+        le-leb (getD values 4 0) mostTicks (held-at held 4 (omega arith)),
+        le-leb (getD values 5 0) (getD values 6 0) (o .delay),
+        le-leb (getD values 6 0) mostTicks (held-at held 6 (omega arith)),
+        le-leb (getD values 10 0) (getD values 11 0) (o .action),
+        le-leb (getD values 11 0) mostTicks (held-at held 11 (omega arith)),
+        held-at held 0 (omega arith),
+        held-at held 1 (omega arith),
+        held-at held 2 (omega arith),
+        held-at held 7 (omega arith),
+        held-at held 8 (omega arith),
+        held-at held 9 (omega arith),
       )
-      (sets-fit _ (row .sets) (r .conditions))
+
+  row-fits : (line : List ℕ) (row : Row) → IsRow names (width s) line row → rowFits s row ≡ true
+  row-fits line row r =
+      let same = row-same names (width s) line row (r .has) in
+      subst (λ (r : Row). rowFits s r ≡ true) same
+      (values-fit (rowValues row) (fields-held (r .has .right)) (subst Ordered (sym same)
+      (r .ordered)))
 
   rows-fit : (rules : List (List ℕ)) (rows : List Row) → Each (IsRow names (width s)) rules rows
       → every (rowFits s) rows ≡ true
@@ -113,8 +132,8 @@ module _ (bytes : List ℕ) (t : Table) (f : IsFile bytes t) where
         names-taken (f .names),
         drop-at known free s
             (length-map (f .names) nameOf),
-        names-fit (f .names) (f .names-are),
-        f .names-differ,
+        names-fit (f .names) (f .begins .named .signals .named),
+        f .begins .differ,
       )
       (every-same nameUnused noName no-name (mostSignals - s))
 
@@ -122,14 +141,14 @@ module _ (bytes : List ℕ) (t : Table) (f : IsFile bytes t) where
   unfolding tableFits rulesFit
   file-fits =
       let many = length (f .rows) in
-      let free = replicate (mostRows - many) noRule in
+      let free = replicate (mostRows - many) zeroRow in
       rw (
         f .table-is,
         take-at (f .rows) free many refl,
         drop-at (f .rows) free many refl,
         within-true 1 mostRows many (f .rows-some) (f .rows-few),
-        within-true 1 mostSignals s (f .names-some) (f .names-few),
+        within-true 1 mostSignals s (f .begins .named .signals .some) (f .begins .few),
         rows-fit known s (f .rules) (f .rows) (f .rows-are),
         names-are-fit,
       )
-      (every-same rowUnused noRule no-rule (mostRows - many))
+      (every-same rowUnused zeroRow zero-row (mostRows - many))

@@ -2,231 +2,38 @@
 -- row count and its bounds in an accepted file, one with `0` for each condition. In the logic a
 -- list has any length: that a table value has six names of eight places and eight rows, as each
 -- value of the machine has, is a hypothesis (`Sized`). Assumes nothing.
-use Prim.Native.Nat.{ℕ, zero, suc, _+_, _-_, _*_, _<_, _≤_}
-use borrow.Author.Tests.{eqb-true, leb-true}
+use Prim.Native.Nat.{ℕ, _+_, _-_, _≤_}
 use native.Mathlib.Omega.{arith}
 use mathlib.Core.Bool.{true, _&&_}
-use mathlib.Core.List.{List, [], _∷_, _++_, map}
-use mathlib.Core.Path.{_≡_, refl, sym, ap, ap₂, _∙_}
-use lib.Dec.{leb}
-use lib.ListN.{length, getD, take, drop, replicate, take-append-drop, length-append, length-take}
+use mathlib.Core.List.{List, _∷_, _++_, map}
+use mathlib.Core.Path.{_≡_, refl, ap, ap₂, _∙_}
+use lib.ListN.{length, take, drop, replicate, take-append-drop, length-append, length-take}
 use lib.ListN.{length-drop, length-map}
-use lib.Seq.{length-take-le, take-all, take-at, getD-take, getD-drop}
+use lib.Seq.{length-take-le, take-at, getD-take, getD-drop}
 use Rattle.letters.specs.Letter.{width}
-use Rattle.letters.specs.Lists.{every}
+use Rattle.letters.specs.Lists.{every, some}
 use Rattle.letters.proofs.Lists.{and-left, and-right}
-use Rattle.letters.proofs.Sets.{setOf-false}
 use Rattle.table.specs.Limits.{mostBytes, mostSignals}
-use Rattle.table.specs.Row.{isZero, rowFits}
-use Rattle.table.specs.Name.{letterRun, nameFits, nameUnused, allDistinct}
+use Rattle.table.specs.Row.{rowFits}
+use Rattle.table.specs.Name.{nameFits, nameUnused, allDistinct}
 use Rattle.table.specs.Valid.{namesFit, rowsOf, tableFits}
 use Rattle.table.specs.declared.Name.{Name}
 use Rattle.table.specs.declared.Row.{Row}
 use Rattle.table.specs.declared.Table.{Table}
-use Rattle.table.proofs.Laws.{RowBounds, rowFits-bounds, rulesFit-rows, tableFits-rules}
-use Rattle.table.proofs.Laws.{tableFits-names, tableFits-count, tableFits-signals}
-use Rattle.text.specs.Bounds.{decimal}
-use Rattle.text.specs.Lines.{ended, joined}
-use Rattle.text.specs.Split.{count}
-use Rattle.text.proofs.Decimals.{decimal-length}
-use Rattle.conditions.specs.Bytes.{'0', opening, closing}
-use Rattle.conditions.specs.Condition.{oneTerm, oneFactor, never, text, nameOf, holdsAt, unknown}
-use Rattle.conditions.proofs.Names.{letterRun-le, letterRun-every, filled, nameOf-filled}
-use Rattle.header.specs.Header.{PNP, version1, signalsWord, isName, noName, namesFrom}
-use Rattle.rows.specs.Row.{comma, ruleWord}
-use Rattle.reader.specs.File.{tableFrom}
-use Rattle.reader.specs.Grammar.{Each, none, and, IsCondition, IsRow}
-use Rattle.reader.specs.Witness.{Sized, SameBounds, Witnessed}
-use Rattle.header.proofs.HeaderLaws.{name-is, name-short}
-
--- A name's letters, in front of its zeros.
-abbrev wordOf : Name → List ℕ
-wordOf name = take (letterRun (name .letters)) (name .letters)
-
-zeros-behind : (xs : List ℕ) (r : ℕ) → every isZero (drop r xs) ≡ true
-    → drop r xs ≡ drop r (replicate (length xs) 0)
-unfolding every
-zeros-behind [] zero h = refl
-zeros-behind [] (suc r) h = refl
-zeros-behind (x ∷ xs) zero h =
-    ap₂ _∷_ (eqb-true x 0 (and-left (isZero x) _ h))
-    (zeros-behind xs zero (and-right (isZero x) _ h))
-zeros-behind (x ∷ xs) (suc r) h = zeros-behind xs r h
-
-module _ (name : Name) (eight : length (name .letters) ≡ 8) where
-  abbrev run : ℕ
-  run = letterRun (name .letters)
-
-  word-length : length (wordOf name) ≡ run
-  word-length = length-take-le run (name .letters) (letterRun-le (name .letters))
-
-  name-unused : nameUnused name ≡ true → name ≡ noName
-  unfolding nameUnused
-  name-unused h =
-      ap (λ (l : List ℕ). record { letters = l })
-      (zeros-behind (name .letters) 0 h ∙ ap (λ (k : ℕ). replicate k 0) eight)
-
-  module _ (fits : nameFits name ≡ true) where
-    word-right : isName (wordOf name) ≡ true
-    unfolding nameFits
-    word-right =
-        let some = leb-true 1 run (and-left (leb 1 run) _ fits) in
-        let few = letterRun-le (name .letters) in
-        let long = word-length in
-        name-is (wordOf name) (λ e. omega arith) (omega arith) (letterRun-every (name .letters))
-
-    word-name : nameOf (wordOf name) ≡ name
-    unfolding nameFits
-    word-name =
-        let few = letterRun-le (name .letters) in
-        let long = word-length in
-        let rest = zeros-behind (name .letters) run (and-right (leb 1 run) _ fits) in
-        let letters : name .letters ≡ filled (wordOf name) (replicate 8 0) run =
-        sym (take-append-drop run (name .letters))
-        ∙ ap₂ _++_ (sym (take-all run (wordOf name) (omega arith)))
-        (rest ∙ ap (λ (k : ℕ). drop run (replicate k 0)) eight) in
-        sym (nameOf-filled (wordOf name) (name .letters) run letters (omega arith) (omega arith)
-        (omega arith))
-
--- Names in a list, of eight places each.
-abbrev Eight : List Name → Type 0
-Eight names = (i : ℕ) → i < length names → length (getD names i noName .letters) ≡ 8
-
-words-right : (names : List Name) → Eight names → every nameFits names ≡ true
-    → every isName (map wordOf names) ≡ true
-unfolding every
-words-right [] eight h = refl
-words-right (name ∷ names) eight h =
-    rw (word-right name (eight 0 (omega arith)) (and-left (nameFits name) _ h))
-    (words-right names (λ i g. eight (suc i) (omega arith)) (and-right (nameFits name) _ h))
-
-words-names : (names : List Name) → Eight names → every nameFits names ≡ true
-    → map nameOf (map wordOf names) ≡ names
-unfolding every
-words-names [] eight h = refl
-words-names (name ∷ names) eight h =
-    ap₂ _∷_ (word-name name (eight 0 (omega arith)) (and-left (nameFits name) _ h))
-    (words-names names (λ i g. eight (suc i) (omega arith)) (and-right (nameFits name) _ h))
-
-names-unused : (names : List Name) → Eight names → every nameUnused names ≡ true
-    → replicate (length names) noName ≡ names
-unfolding every
-names-unused [] eight h = refl
-names-unused (name ∷ names) eight h =
-    ap₂ _∷_ (sym (name-unused name (eight 0 (omega arith)) (and-left (nameUnused name) _ h)))
-    (names-unused names (λ i g. eight (suc i) (omega arith)) (and-right (nameUnused name) _ h))
-
-names-length : (word : List ℕ) (names : List (List ℕ)) → every isName names ≡ true
-    → length (joined 32 word names) ≤ length word + 9 * length names
-unfolding joined every
-names-length word [] h = omega arith
-names-length word (name ∷ names) h =
-    let few = name-short name (and-left (isName name) _ h) in
-    let rest = names-length name names (and-right (isName name) _ h) in
-    rw length-append (omega arith)
-
--- The condition `0`, which holds nowhere; a row of it with a row's bounds, and the line of that.
-abbrev zeroText : List ℕ
-zeroText = '0' ∷ []
-
-zero-shallow : (i : ℕ) → count opening (take i zeroText) ≤ count closing (take i zeroText) + 8
-unfolding count
-zero-shallow zero = omega arith
-zero-shallow (suc zero) = omega arith
-zero-shallow (suc (suc i)) = omega arith
-
-zero-condition : (names : List Name) (n : ℕ) → IsCondition names n zeroText 0
-unfolding text holdsAt unknown
-zero-condition names n = record {
-  shallow = record { upto = zero-shallow };
-  means = record {
-    tree = oneTerm (oneFactor never);
-    bytes = refl;
-    letters = setOf-false n;
-    flag = refl;
-  };
-}
-
-abbrev bare : Row → Row
-bare row = record {
-  sets = replicate 6 0;
-  tmin = row .tmin;
-  tmax = row .tmax;
-  lmin = row .lmin;
-  lmax = row .lmax;
-  amin = row .amin;
-  amax = row .amax;
-}
-
-abbrev lineOf : Row → List ℕ
-lineOf row =
-    ruleWord ++ joined comma zeroText (zeroText ∷ zeroText ∷ decimal (row .tmin)
-    ∷ decimal (row .tmax) ∷ decimal (row .lmin) ∷ decimal (row .lmax) ∷ zeroText ∷ zeroText
-    ∷ zeroText ∷ decimal (row .amin) ∷ decimal (row .amax) ∷ [])
-
-line-row : (names : List Name) (n : ℕ) (row : Row) → RowBounds row
-    → IsRow names n (lineOf row) (bare row)
-line-row names n row b =
-    let nowhere = zero-condition names n in
-    record {
-      tse = zeroText;
-      tc = zeroText;
-      tee = zeroText;
-      ase = zeroText;
-      ac = zeroText;
-      aee = zeroText;
-      bytes = refl;
-      conditions =
-          and nowhere (and nowhere (and nowhere (and nowhere (and nowhere (and nowhere none)))));
-      t-ordered = b .trigger;
-      l-ordered = b .delay;
-      a-ordered = b .action;
-      t-fits = b .trigger-most;
-      l-fits = b .delay-most;
-      a-fits = b .action-most;
-    }
-
-bound-length : (n : ℕ) → n ≤ 60 → length (decimal n) ≤ 2
-bound-length n h = decimal-length 1 n (omega arith)
-
-line-length : (row : Row) → RowBounds row → length (lineOf row) ≤ 34
-unfolding joined
-line-length row b =
-    simp length-append (omega (
-      arith,
-      bound-length (row .tmin) (omega arith),
-      bound-length (row .tmax) (omega arith),
-      bound-length (row .lmin) (omega arith),
-      bound-length (row .lmax) (omega arith),
-      bound-length (row .amin) (omega arith),
-      bound-length (row .amax) (omega arith),
-    ))
-
--- Rows in a list.
-module _ (s : ℕ) where
-  lines-rows : (names : List Name) (n : ℕ) (rows : List Row) → every (rowFits s) rows ≡ true
-      → Each (IsRow names n) (map lineOf rows) (map bare rows)
-  unfolding every
-  lines-rows names n [] h = none
-  lines-rows names n (row ∷ rows) h =
-      and (line-row names n row (rowFits-bounds s row (and-left (rowFits s row) _ h)))
-      (lines-rows names n rows (and-right (rowFits s row) _ h))
-
-  lines-length : (rows : List Row) → every (rowFits s) rows ≡ true
-      → length (ended (map lineOf rows)) ≤ 35 * length rows
-  unfolding every ended
-  lines-length [] h = omega arith
-  lines-length (row ∷ rows) h =
-      let bounds = rowFits-bounds s row (and-left (rowFits s row) _ h) in
-      let few = line-length row bounds in
-      let rest = lines-length rows (and-right (rowFits s row) _ h) in
-      rw length-append (omega arith)
-
-bare-bounds : (rows : List Row) → Each SameBounds (map bare rows) rows
-bare-bounds [] = none
-bare-bounds (row ∷ rows) =
-    and (record { tmin = refl; tmax = refl; lmin = refl; lmax = refl; amin = refl; amax = refl })
-    (bare-bounds rows)
+use Rattle.table.proofs.Laws.{rulesFit-rows, tableFits-rules, tableFits-names, tableFits-count}
+use Rattle.table.proofs.Laws.{tableFits-signals}
+use Rattle.text.specs.Lines.{ended, joined, count, LF, space, Free, All, none as all-none}
+use Rattle.text.specs.Lines.{and as all-and}
+use Rattle.conditions.specs.Condition.{nameOf, IsName}
+use Rattle.header.specs.Header.{PNP, version1, signalsWord, noName, namesFrom, IsSignals}
+use Rattle.rows.proofs.Rules.{row-free}
+use Rattle.header.proofs.Shapes.{signals-free}
+use Rattle.reader.specs.Reading.{tableFrom}
+use Rattle.reader.specs.Grammar.{none, and, AreLines, AreRows}
+use Rattle.reader.specs.Witness.{Sized, Witnessed}
+use Rattle.reader.proofs.PlainNames.{wordOf, Eight, words-right, words-names, names-unused}
+use Rattle.reader.proofs.PlainRows.{joined-length, bare, lineOf, lines-rows, lines-length}
+use Rattle.reader.proofs.PlainRows.{bare-bounds}
 
 -- The file.
 module _ (table : Table) (sized : Sized table) (fits : tableFits table ≡ true) where
@@ -246,7 +53,7 @@ module _ (table : Table) (sized : Sized table) (fits : tableFits table ≡ true)
   header = PNP ++ version1
 
   abbrev bytesOf : List ℕ
-  bytesOf = ended (header ∷ joined 32 signalsWord words ∷ map lineOf (rowsOf table))
+  bytesOf = ended (header ∷ joined space (signalsWord ∷ words) ∷ map lineOf (rowsOf table))
 
   abbrev otherOf : Table
   otherOf = tableFrom (length words) (namesFrom words) rows
@@ -296,10 +103,19 @@ module _ (table : Table) (sized : Sized table) (fits : tableFits table ≡ true)
       ∙ names-unused (drop s (table .names)) rest-eight (names-parts .2))
       ∙ take-append-drop s (table .names)
 
+  words-short : (words : List (List ℕ)) → All IsName words → All (λ piece. length piece ≤ 8) words
+  words-short words all-none = all-none
+  words-short words (all-and {more} h rest) = all-and (h .few) (words-short more rest)
+
+  words-are : All IsName words
+  words-are = words-right used used-eight (names-parts .0)
+
   bytes-few : length bytesOf ≤ mostBytes
   unfolding ended
   bytes-few =
-      let second = names-length signalsWord words (words-right used used-eight (names-parts .0)) in
+      let short : All (λ piece. length piece ≤ 8) (signalsWord ∷ words) =
+      all-and {a = signalsWord} (omega arith) (words-short words words-are) in
+      let second = joined-length space 8 (signalsWord ∷ words) short in
       let rest = lines-length s (rowsOf table) rows-fit in
       let many = length-map (rowsOf table) bare in
       simp length-append (omega (
@@ -310,6 +126,31 @@ module _ (table : Table) (sized : Sized table) (fits : tableFits table ≡ true)
         tableFits-count table fits,
       ))
 
+  signals-are : IsSignals (joined space (signalsWord ∷ words)) words
+  signals-are = record {
+    line-is = refl;
+    some = omega (arith, words-length, tableFits-signals table fits);
+    named = words-are;
+  }
+
+  rows-are : AreRows words (map lineOf (rowsOf table)) rows
+  rows-are = lines-rows s (map nameOf words) (width (length words)) (rowsOf table) rows-fit
+
+  rows-apart : {rules : List (List ℕ)} {rows : List Row} → AreRows words rules rows → Free LF rules
+  rows-apart none = all-none
+  rows-apart (and {a} {b} h more) =
+      all-and (row-free (map nameOf words) (width (length words)) a b h) (rows-apart more)
+
+  lines-are : AreLines bytesOf (header ∷ joined space (signalsWord ∷ words)
+      ∷ map lineOf (rowsOf table))
+  unfolding count
+  lines-are = record {
+    bytes-are = refl;
+    apart = all-and refl (all-and (signals-free _ words signals-are) (rows-apart rows-are));
+    some = omega arith;
+    few = bytes-few;
+  }
+
   pub fits-witnessed : Witnessed table
   fits-witnessed = record {
     bytes = bytesOf;
@@ -318,15 +159,14 @@ module _ (table : Table) (sized : Sized table) (fits : tableFits table ≡ true)
       names = words;
       rules = map lineOf (rowsOf table);
       rows = rows;
-      lines-are = refl;
-      bytes-few = bytes-few;
-      names-some = omega (arith, words-length, tableFits-signals table fits);
-      names-few = omega (arith, words-length, tableFits-signals table fits);
-      names-are = words-right used used-eight (names-parts .0);
-      names-differ = rw (words-names used used-eight (names-parts .0)) (names-parts .1);
+      begins = record {
+        named = record { line2 = _; lines = lines-are; signals = signals-are };
+        few = omega (arith, words-length, tableFits-signals table fits);
+        differ = rw (words-names used used-eight (names-parts .0)) (names-parts .1);
+      };
+      rows-are = rows-are;
       rows-some = omega (arith, rows-length, tableFits-count table fits);
       rows-few = omega (arith, rows-length, tableFits-count table fits);
-      rows-are = lines-rows s (map nameOf words) (width (length words)) (rowsOf table) rows-fit;
       table-is = refl;
     };
     signals = words-length;

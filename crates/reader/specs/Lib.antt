@@ -1,7 +1,7 @@
--- The reader: `Grammar` (the accepted files, and the places of refusals); then, with `Header` of
--- crate `header` and `Row` of crate `rows`, `File` (which number and line each other file gets);
--- and `Witness` (number 17).
-pub mod File
+-- The reader: `Reading` (its answers), `Grammar` (the accepted files), `Right` (which answer each
+-- file gets), `Witness` (number 17).
+pub mod Reading
 pub mod Grammar
+pub mod Right
 pub mod Witness
 pub mod inner

@@ -1,6 +1,6 @@
-// The reader: any bytes in, exactly the tables of document 01 out. specs/File.antt says which
-// number and line each file gets, and which table; specs/Grammar.antt describes the accepted files.
-// Crate `header` reads lines 1 and 2, crate `rows` each further line.
+// The reader: any bytes in, exactly the tables of document 01 out. specs/Grammar.antt describes the
+// accepted files, specs/Right.antt which number and line each other one gets. Crate `header` reads
+// lines 1 and 2, crate `rows` each further line.
 use table::CONDITIONS;
 use table::MOST_ROWS;
 use table::MOST_SIGNALS;
@@ -13,10 +13,10 @@ use table::Table;
 ghost use mathlib.Core.Path.{_≡_};
 ghost use Prim.Native.Nat.{_+_, min};
 ghost use lib.ListN.{length};
-ghost use Rattle.text.specs.Lines.{lines};
-ghost use Rattle.reader.specs.File.{emptyTable, refusedFile, tableFrom, rowsAnswer};
+ghost use Rattle.text.specs.inner.Cut.{lines};
+ghost use Rattle.reader.specs.Reading.{emptyTable, refusedFile};
+ghost use Rattle.reader.specs.inner.File.{rowsAnswer, bodyAnswer, readAnswer};
 ghost use Rattle.reader.specs.inner.Gathering.{gathered};
-ghost use Rattle.reader.specs.File.{bodyAnswer, readAnswer};
 
 pub const MOST_BYTES: usize = 4096;
 

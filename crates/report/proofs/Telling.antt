@@ -5,8 +5,8 @@ use borrow.Author.Tests.{ltb-true, ne-eqb}
 use native.Mathlib.Decide.{decLt}
 use native.Mathlib.Omega.{arith}
 use mathlib.Core.Bool.{true}
-use mathlib.Core.List.{List, [], _∷_, _++_, append-assoc, append-cancel-left}
-use mathlib.Core.List.{head-eq-of-cons-eq, tail-eq-of-cons-eq}
+use mathlib.Core.List.{List, [], _∷_, _++_, append-assoc, append-cancel-left, head-eq-of-cons-eq}
+use mathlib.Core.List.{tail-eq-of-cons-eq}
 use mathlib.Core.Path.{_≡_, refl, sym, ap, ap₂, _∙_}
 use lib.ListN.{length, getD, take, drop}
 use lib.Seq.{length-take-le}
@@ -17,16 +17,16 @@ use Rattle.letters.proofs.Lists.{and-left, and-right}
 use Rattle.letters.proofs.Sets.{set-ext}
 use Rattle.table.specs.declared.Refusal.{Refusal}
 use Rattle.text.specs.Bounds.{decimal}
-use Rattle.text.specs.Lines.{LF, lines}
-use Rattle.text.specs.Split.{count}
+use Rattle.text.specs.Lines.{LF, count, Free, none, and}
+use Rattle.text.specs.inner.Cut.{lines}
 use Rattle.text.proofs.Bounds.{decimal-free}
 use Rattle.text.proofs.Decimals.{decimal-injective}
-use Rattle.text.proofs.Joins.{Free, none, and, lines-ended}
+use Rattle.text.proofs.Joins.{lines-ended}
 use Rattle.text.proofs.Splits.{count-append, append-injective}
 use Rattle.report.specs.Report.{refusedWord, lineWord, rulesWord, countWord, soundLine}
 use Rattle.report.specs.Report.{tickWord, lostWord, refusedLine, sizeLines, values}
-use Rattle.report.specs.Report.{trappedLine, tickLine, tickLines, trapLines}
-use Rattle.report.specs.Report.{reportLines, reportBytes, traceLength, Shows}
+use Rattle.report.specs.Report.{trappedLine, tickLine, tickLines, trapLines, reportLines}
+use Rattle.report.specs.Report.{reportBytes, traceLength, Shows}
 use Rattle.report.specs.declared.Answer.{Answer}
 use Rattle.report.specs.declared.Size.{Size}
 use Rattle.report.specs.declared.Trap.{Trap}

@@ -1,2 +1,5 @@
--- `RowLaws`: what the functions of a row's line cite.
+-- `RowLaws`: what the functions of a row cite. `Fields`, `Rules`: fields and lines as they are
+-- described, against what is computed of them.
 pub mod RowLaws
+pub mod Fields
+pub mod Rules

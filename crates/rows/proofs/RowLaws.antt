@@ -9,28 +9,30 @@ use mathlib.Core.Bool.{Bool, true, false, cond}
 use mathlib.Core.List.{List, [], _∷_, _++_, map, map-append, append-nil}
 use mathlib.Core.Path.{_≡_, refl, sym, ap, _∙_}
 use lib.Dec.{eqb, ltb}
-use lib.ListN.{length, getD, take, drop, set, replicate, length-take, length-drop}
-use lib.ListN.{length-map, drop-of-length-le, take-append-drop, List·getD-map}
+use lib.ListN.{length, getD, take, drop, set, replicate, length-take, length-drop, length-map}
+use lib.ListN.{drop-of-length-le, take-append-drop, List·getD-map}
 use lib.Seq.{take-all, take-add, drop-drop, set-at, append-snoc}
 use Rattle.letters.specs.Lists.{every, sameBytes}
 use Rattle.letters.proofs.Lists.{and-left, and-right, sameBytes-true}
 use Rattle.table.specs.declared.Name.{Name}
-use Rattle.text.specs.Split.{count, split, front}
-use Rattle.text.specs.Bounds.{boundOf}
+use Rattle.text.specs.Lines.{count}
+use Rattle.text.specs.inner.Cut.{split, front}
+use Rattle.text.specs.inner.Bounds.{boundOf}
 use Rattle.text.specs.declared.Bound.{Bound}
 use Rattle.text.specs.declared.Bound.the-variants.{Value as Ticks, Wrong}
 use Rattle.text.proofs.Bounds.{boundOf-value-small}
-use Rattle.text.proofs.Splits.{split-cons, split-length, split-front, front-whole, count-behind}
-use Rattle.text.proofs.Splits.{behind-drop, front-length, front-short}
-use Rattle.conditions.specs.Judge.{judge}
+use Rattle.text.proofs.Splits.{split-cons, split-length, split-front, front-whole, count-after}
+use Rattle.text.proofs.Splits.{after-drop, front-length, front-short}
+use Rattle.conditions.specs.inner.Judge.{judge}
 use Rattle.conditions.specs.declared.Judged.{Judged}
 use Rattle.conditions.specs.declared.Judged.the-variants.{Letters, Refused as NoCondition}
 use Rattle.rows.specs.declared.Field.{Field}
 use Rattle.rows.specs.declared.Field.the-variants.{Value, Refused}
 use Rattle.rows.specs.declared.Values.{Values}
-use Rattle.rows.specs.Row.{isBound, ticksField, judgedField, fieldOf, fieldsOf}
-use Rattle.rows.specs.Row.{firstFault, valueOf, setsFrom, boundsFrom, ordered, rowRead}
-use Rattle.rows.specs.Row.{rowRefused, ruleWord, rowFields}
+use Rattle.rows.specs.inner.Row.{boundAt, ticksField, judgedField, fieldOf, fieldsOf}
+use Rattle.rows.specs.inner.Row.{numberAmong, valueOf, setsFrom, boundsFrom, boundsOrdered}
+use Rattle.rows.specs.inner.Row.{rowRead, rowRefused, rowFields}
+use Rattle.rows.specs.Row.{ruleWord}
 use Rattle.rows.specs.inner.Gathering.{valuesAnswer}
 use Rattle.conditions.proofs.Judging.{judge-some}
 
@@ -52,7 +54,7 @@ module _ (names : List Name) (n : ℕ) where
   field-fault : (k : ℕ) (xs : List ℕ) (m : ℕ) → fieldOf names n k xs ≡ Refused m
       → (m ≡ 0 → ⊥)
   unfolding fieldOf
-  field-fault k xs m = go (isBound k)
+  field-fault k xs m = go (boundAt k)
     where
       go : (t : Bool)
           → cond t (ticksField (boundOf xs)) (judgedField (judge names n xs)) ≡ Refused m
@@ -60,11 +62,11 @@ module _ (names : List Name) (n : ℕ) where
       go true e = ticks-fault (boundOf xs) m e
       go false e = judge-some names n xs m (judged-fault (judge names n xs) m e)
 
-  field-small : (k : ℕ) (xs : List ℕ) → isBound k ≡ true → valueOf (fieldOf names n k xs) ≤ 60
+  field-small : (k : ℕ) (xs : List ℕ) → boundAt k ≡ true → valueOf (fieldOf names n k xs) ≤ 60
   unfolding fieldOf
   field-small k xs bound = rw bound (ticks-small (boundOf xs) (boundOf-value-small xs))
 
-  bounds-small : (pieces : List (List ℕ)) (k i : ℕ) → isBound (k + i) ≡ true
+  bounds-small : (pieces : List (List ℕ)) (k i : ℕ) → boundAt (k + i) ≡ true
       → valueOf (getD (fieldsOf names n k pieces) i (Value 0)) ≤ 60
   unfolding fieldsOf
   bounds-small [] k i bound = omega arith
@@ -97,7 +99,7 @@ module _ (names : List Name) (n : ℕ) (line : List ℕ) where
   pub record Here (at k : ℕ) : Type 0 where
     -- The field begins within the line.
     pub within : at ≤ length line
-    -- There are as many commas left as fields behind this one.
+    -- There are as many commas left as fields after this one.
     pub commas : count 44 (drop at line) + k ≡ 11
     -- The rest of the line holds the fields from this one on.
     pub rest : drop k fields ≡ fieldsOf names n k (split 44 (drop at line))
@@ -108,8 +110,8 @@ module _ (names : List Name) (n : ℕ) (line : List ℕ) where
     -- Where there is a field left to read, it is here.
     pub here : k < 12 → Here at k
     -- No field before this one has a number.
-    pub clean : firstFault fields ≡ firstFault (drop k fields)
-    -- What the fields before this one hold stands in the array, and zeros behind it.
+    pub clean : numberAmong fields ≡ numberAmong (drop k fields)
+    -- What the fields before this one hold stands in the array, and zeros after it.
     pub stored : values ≡ map valueOf (take k fields) ++ replicate (12 - k) 0
 
   pub gathered-none : 5 ≤ length line → count 44 (drop 5 line) ≡ 11
@@ -135,26 +137,26 @@ module _ (names : List Name) (n : ℕ) (line : List ℕ) where
     pub here-front : at + length (front 44 (drop at line)) ≤ length line
     here-front = omega (arith, here .within, length-drop at line, front-length 44 (drop at line))
 
-    -- The next field begins behind the comma.
+    -- The next field begins after the comma.
     here-next : k + 1 < 12 → Here (at + length (front 44 (drop at line)) + 1) (k + 1)
     unfolding fieldsOf
     here-next more =
         let xs = drop at line in
         let some : 0 < count 44 xs = omega (arith, here .commas) in
         let next : at + (length (front 44 xs) + 1) ≡ at + length (front 44 xs) + 1 = omega arith in
-        let behind-it = behind-drop 44 xs some ∙ drop-drop (length (front 44 xs) + 1) at line in
-        let there = rw next at behind-it in
+        let after-it = after-drop 44 xs some ∙ drop-drop (length (front 44 xs) + 1) at line in
+        let there = rw next at after-it in
         let first = here .rest ∙ ap (fieldsOf names n k) (split-cons 44 xs some) in
         record {
           within = omega (arith, here .within, length-drop at line, front-short 44 xs some);
-          commas = rw (← there) (omega (arith, here .commas, count-behind 44 xs some));
+          commas = rw (← there) (omega (arith, here .commas, count-after 44 xs some));
           rest = rw (← there) (sym (drop-drop 1 k fields) ∙ ap (drop 1) first);
         }
 
     -- A turn that finds a value.
     module _ (v : ℕ) (value : field ≡ Value v) where
-      clean-next : firstFault (drop k fields) ≡ firstFault (drop (k + 1) fields)
-      unfolding firstFault
+      clean-next : numberAmong (drop k fields) ≡ numberAmong (drop (k + 1) fields)
+      unfolding numberAmong
       clean-next = rw (field-first, value)
 
       stored-next : k < 12
@@ -180,7 +182,7 @@ module _ (names : List Name) (n : ℕ) (line : List ℕ) where
     -- A turn that finds a fault.
     pub gathered-fault : (m : ℕ) → field ≡ Refused m → (values : List ℕ) → Gathered values at k
         → valuesAnswer fields ≡ record { number = m; values = replicate 12 0 }
-    unfolding valuesAnswer firstFault
+    unfolding valuesAnswer numberAmong
     gathered-fault m fault values now =
         let some = ne-eqb m 0 (field-fault names n k (front 44 (drop at line)) m fault) in
         rw (now .clean, field-first, fault, some, some)
@@ -188,11 +190,11 @@ module _ (names : List Name) (n : ℕ) (line : List ℕ) where
   -- The end.
   pub gathered-all : (values : List ℕ) (at k : ℕ) → count 44 (drop 5 line) ≡ 11 → 12 ≤ k
       → Gathered values at k → valuesAnswer fields ≡ record { number = 0; values = values }
-  unfolding valuesAnswer firstFault
+  unfolding valuesAnswer numberAmong
   gathered-all values at k commas h now =
       let size = fields-length names n (split 44 (drop 5 line)) 0 ∙ split-length 44 (drop 5 line) in
       let none : 12 - k ≡ 0 = omega arith in
-      let clean = now .clean ∙ ap firstFault (drop-of-length-le fields {i = k} (omega arith)) in
+      let clean = now .clean ∙ ap numberAmong (drop-of-length-le fields {i = k} (omega arith)) in
       let all = rw (take-all k fields (omega arith), none, append-nil) at (now .stored) in
       rw (clean, all)
 
@@ -207,14 +209,14 @@ cut-same (x ∷ xs) h =
 
 -- A row of the values v, of which b are the bounds.
 module _ (v b : List ℕ) (same : b ≡ boundsFrom v) where
-  pub row-ordered : ordered b ≡ true
+  pub row-ordered : boundsOrdered b ≡ true
       → rowRead v ≡ record { number = 0; sets = setsFrom v; bounds = b }
   row-ordered passes = rw same (rw (rw same at passes))
 
-  pub row-crossed : ordered b ≡ false → rowRead v ≡ rowRefused 15
+  pub row-crossed : boundsOrdered b ≡ false → rowRead v ≡ rowRefused 15
   row-crossed fails = rw (rw same at fails)
 
--- The commas of a row's line all stand behind `rule `.
+-- The commas of a row's line all stand after `rule `.
 module _ (line : List ℕ) (rule : sameBytes (take 5 line) ruleWord ≡ true) where
   rule-take : take 5 line ≡ ruleWord
   rule-take = sameBytes-true (take 5 line) ruleWord rule
@@ -228,25 +230,25 @@ module _ (line : List ℕ) (rule : sameBytes (take 5 line) ruleWord ≡ true) wh
 
 -- A row, by the number and the values that were gathered.
 module _ (fields : List Field) (values : Values) (read : values ≡ valuesAnswer fields) where
-  number-fault : values .number ≡ firstFault fields
+  number-fault : values .number ≡ numberAmong fields
   unfolding valuesAnswer
-  number-fault = rw read (go (eqb (firstFault fields) 0) refl)
+  number-fault = rw read (go (eqb (numberAmong fields) 0) refl)
     where
-      go : (t : Bool) → eqb (firstFault fields) 0 ≡ t
+      go : (t : Bool) → eqb (numberAmong fields) 0 ≡ t
           → cond {A = Values} t (record { number = 0; values = map valueOf fields })
-          (record { number = firstFault fields; values = replicate 12 0 }) .number
-          ≡ firstFault fields
-      go true e = sym (eqb-true (firstFault fields) 0 e)
+          (record { number = numberAmong fields; values = replicate 12 0 }) .number
+          ≡ numberAmong fields
+      go true e = sym (eqb-true (numberAmong fields) 0 e)
       go false e = refl
 
   pub row-fault : (values .number ≡ 0 → ⊥) → rowFields fields ≡ rowRefused (values .number)
   unfolding rowFields
   row-fault some =
-      rw (ne-eqb (firstFault fields) 0 (λ none. some (number-fault ∙ none)), number-fault)
+      rw (ne-eqb (numberAmong fields) 0 (λ none. some (number-fault ∙ none)), number-fault)
 
   module _ (none : values .number ≡ 0) where
-    clean : eqb (firstFault fields) 0 ≡ true
-    clean = eq-eqb (firstFault fields) 0 (sym number-fault ∙ none)
+    clean : eqb (numberAmong fields) 0 ≡ true
+    clean = eq-eqb (numberAmong fields) 0 (sym number-fault ∙ none)
 
     pub values-held : values .values ≡ map valueOf fields
     unfolding valuesAnswer
@@ -261,7 +263,7 @@ module _ (names : List Name) (n : ℕ) (pieces : List (List ℕ)) where
   abbrev held : List ℕ
   held = map valueOf (fieldsOf names n 0 pieces)
 
-  bound-low : (i : ℕ) → isBound (0 + i) ≡ true → ltb (getD held i 0) 256 ≡ true
+  bound-low : (i : ℕ) → boundAt (0 + i) ≡ true → ltb (getD held i 0) 256 ≡ true
   bound-low i bound =
       let small = bounds-small names n pieces 0 i bound in
       lt-ltb (getD held i 0) 256

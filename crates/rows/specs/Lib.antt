@@ -1,3 +1,3 @@
--- A row's line: `Row` has numbers 10 to 15, and what the line gives.
+-- A row's line: `Row` says which lines are rows, and which number another line gets.
 pub mod Row
 pub mod inner

@@ -1,112 +1,85 @@
--- One row's line: "`rule `, then twelve fields with eleven commas between them".
-use Prim.Native.Nat.{ℕ, _+_}
-use mathlib.Core.Bool.{Bool, _&&_, _||_, cond}
-use mathlib.Core.List.{List, [], _∷_, map}
-use lib.Dec.{leb, eqb}
-use lib.ListN.{getD, drop, replicate}
+-- One row's line, and what is wrong with another line: numbers 10 to 15.
+use Prim.Native.Nat.{ℕ, _≤_}
+use mathlib.Core.List.{List, [], _∷_, _++_}
+use mathlib.Core.Path.{_≡_}
+use lib.ListN.{length, take, drop}
 use Rattle.table.specs.declared.Name.{Name}
 use Rattle.table.specs.declared.Row.{Row}
-use Rattle.text.specs.Split.{startsWith, count, split}
-use Rattle.text.specs.Bounds.{boundOf}
-use Rattle.text.specs.declared.Bound.{Bound}
-use Rattle.text.specs.declared.Bound.the-variants.{Value as Ticks, Wrong}
-use Rattle.conditions.specs.Judge.{judge}
-use Rattle.conditions.specs.declared.Judged.{Judged}
-use Rattle.conditions.specs.declared.Judged.the-variants.{Letters, Refused as NoCondition}
-use Rattle.rows.specs.declared.Field.{Field}
-use Rattle.rows.specs.declared.Field.the-variants.{Value, Refused}
-use Rattle.rows.specs.declared.RowRead.{RowRead}
+use Rattle.text.specs.Bounds.{IsBound}
+use Rattle.text.specs.Bytes.{bytes}
+use Rattle.text.specs.Lines.{comma, joined, Free}
+use Rattle.conditions.specs.Judge.{IsCondition, RightCondition}
+use Rattle.conditions.specs.declared.Judged.the-variants.{Refused}
 
-abbrev pub comma : ℕ
-comma = 44
-
+-- "Every further line is `rule `, then twelve fields with eleven commas between them: TSE, TC, TEE,
+-- Tmin, Tmax, Lmin, Lmax, ASE, AC, AEE, Amin, Amax." A field is a condition, or a bound.
 abbrev pub ruleWord : List ℕ
-ruleWord = 114 ∷ 117 ∷ 108 ∷ 101 ∷ 32 ∷ []
+ruleWord = bytes "rule "
 
--- "TSE, TC, TEE, Tmin, Tmax, Lmin, Lmax, ASE, AC, AEE, Amin, Amax": fields 3 to 6 and from 10 on
--- are bounds.
-abbrev pub isBound : ℕ → Bool
-isBound k = leb 3 k && leb k 6 || leb 10 k
+pub data FieldKind : Type 0 where
+  condition bound : FieldKind
 
--- 14 "not a bound"; 11, 12, 13 for a condition.
-abbrev pub ticksField : Bound → Field
-ticksField (Ticks n) = Value n
-ticksField Wrong = Refused 14
+abbrev pub fieldKinds : List FieldKind
+fieldKinds =
+    condition ∷ condition ∷ condition ∷ bound ∷ bound ∷ bound ∷ bound ∷ condition ∷ condition
+    ∷ condition ∷ bound ∷ bound ∷ []
 
-abbrev pub boundField : List ℕ → Field
-boundField xs = ticksField (boundOf xs)
+pub record IsRule (line : List ℕ) (fields : List (List ℕ)) : Type 0 where
+  pub line-is : line ≡ ruleWord ++ joined comma fields
+  pub apart : Free comma fields
+  pub twelve : length fields ≡ length fieldKinds
 
-abbrev pub judgedField : Judged → Field
-judgedField (Letters v) = Value v
-judgedField (NoCondition m) = Refused m
+-- The values of a row, in the order of its fields: the set of each condition, and each bound.
+abbrev pub rowValues : Row → List ℕ
+rowValues row =
+    take 3 (row .sets) ++ (row .tmin ∷ row .tmax ∷ row .lmin ∷ row .lmax ∷ [])
+    ++ drop 3 (row .sets) ++ (row .amin ∷ row .amax ∷ [])
 
-abbrev pub conditionField : List Name → ℕ → List ℕ → Field
-conditionField names n xs = judgedField (judge names n xs)
+-- "Least is not above most."
+pub record Ordered (row : Row) : Type 0 where
+  pub trigger : row .tmin ≤ row .tmax
+  pub delay : row .lmin ≤ row .lmax
+  pub action : row .amin ≤ row .amax
 
-unfoldable pub fieldOf : List Name → ℕ → ℕ → List ℕ → Field
-fieldOf names n k xs = cond (isBound k) (boundField xs) (conditionField names n xs)
+module _ (names : List Name) (letters : ℕ) where
+  abbrev pub IsField : FieldKind → List ℕ → ℕ → Type 0
+  IsField condition xs v = IsCondition names letters xs v
+  IsField bound xs v = IsBound xs v
 
--- The fields from the left, the first of which has number k; the first number among them, or 0; and
--- what they hold.
-unfoldable pub fieldsOf : List Name → ℕ → ℕ → List (List ℕ) → List Field
-fieldsOf names n k [] = []
-fieldsOf names n k (xs ∷ more) = fieldOf names n k xs ∷ fieldsOf names n (k + 1) more
+  -- Fields of these kinds, that are all right, with these values.
+  pub data AreFields : List FieldKind → List (List ℕ) → List ℕ → Type 0 where
+    none : AreFields [] [] []
+    and : {kind : FieldKind} {xs : List ℕ} {v : ℕ} {kinds : List FieldKind}
+        {fields : List (List ℕ)} {values : List ℕ} → IsField kind xs v
+        → AreFields kinds fields values → AreFields (kind ∷ kinds) (xs ∷ fields) (v ∷ values)
 
-abbrev pub faultOf : Field → ℕ
-faultOf (Value v) = 0
-faultOf (Refused m) = m
+  -- The line is a rule whose fields are all right, with the values of this row.
+  pub record HasFields (line : List ℕ) (row : Row) : Type 0 where
+    pub fields : List (List ℕ)
+    pub rule : IsRule line fields
+    pub right : AreFields fieldKinds fields (rowValues row)
 
-unfoldable pub firstFault : List Field → ℕ
-firstFault [] = 0
-firstFault (field ∷ fields) = cond (eqb (faultOf field) 0) (firstFault fields) (faultOf field)
+  -- The line is this row.
+  pub record IsRow (line : List ℕ) (row : Row) : Type 0 where
+    pub has : HasFields line row
+    pub ordered : Ordered row
 
-abbrev pub valueOf : Field → ℕ
-valueOf (Value v) = v
-valueOf (Refused m) = 0
+  -- "The fields from the left (11, 12, 13 over the whole condition, or 14)": the number of the
+  -- first field that is not right.
+  pub data FirstFault : List FieldKind → List (List ℕ) → ℕ → Type 0 where
+    noCondition : {xs : List ℕ} {number : ℕ} {kinds : List FieldKind} {fields : List (List ℕ)}
+        → RightCondition names letters xs (Refused number)
+        → FirstFault (condition ∷ kinds) (xs ∷ fields) number
+    noBound : {xs : List ℕ} {kinds : List FieldKind} {fields : List (List ℕ)}
+        → ((n : ℕ) → IsBound xs n → ⊥) → FirstFault (bound ∷ kinds) (xs ∷ fields) 14
+    later : {kind : FieldKind} {xs : List ℕ} {kinds : List FieldKind} {fields : List (List ℕ)}
+        {number : ℕ} (v : ℕ) → IsField kind xs v
+        → FirstFault kinds fields number → FirstFault (kind ∷ kinds) (xs ∷ fields) number
 
--- A row of the values of its fields.
-abbrev pub setsFrom : List ℕ → List ℕ
-setsFrom v = getD v 0 0 ∷ getD v 1 0 ∷ getD v 2 0 ∷ getD v 7 0 ∷ getD v 8 0 ∷ getD v 9 0 ∷ []
-
-abbrev pub boundsFrom : List ℕ → List ℕ
-boundsFrom v = getD v 3 0 ∷ getD v 4 0 ∷ getD v 5 0 ∷ getD v 6 0 ∷ getD v 10 0 ∷ getD v 11 0 ∷ []
-
-abbrev pub rowFrom : List ℕ → List ℕ → Row
-rowFrom sets bounds = record {
-  sets = sets;
-  tmin = getD bounds 0 0;
-  tmax = getD bounds 1 0;
-  lmin = getD bounds 2 0;
-  lmax = getD bounds 3 0;
-  amin = getD bounds 4 0;
-  amax = getD bounds 5 0;
-}
-
--- "15 for T, L, A": least is not above most.
-abbrev pub ordered : List ℕ → Bool
-ordered b =
-    leb (getD b 0 0) (getD b 1 0) && leb (getD b 2 0) (getD b 3 0) && leb (getD b 4 0) (getD b 5 0)
-
--- What a refused row gives, and one that passes.
-abbrev pub rowRefused : ℕ → RowRead
-rowRefused number = record { number = number; sets = replicate 6 0; bounds = replicate 6 0 }
-
-abbrev pub rowRead : List ℕ → RowRead
-rowRead v =
-    cond (ordered (boundsFrom v)) (record { number = 0; sets = setsFrom v; bounds = boundsFrom v })
-    (rowRefused 15)
-
--- "On a row: .. 10, then the fields from the left (11, 12, 13 over the whole condition, or 14),
--- then 15 for T, L, A."
-abbrev pub isRule : List ℕ → Bool
-isRule line = startsWith ruleWord line && eqb (count comma line) 11
-
-unfoldable pub rowFields : List Field → RowRead
-rowFields fields =
-    cond (eqb (firstFault fields) 0) (rowRead (map valueOf fields)) (rowRefused (firstFault fields))
-
-abbrev pub lineFields : List Name → ℕ → List ℕ → List Field
-lineFields names n line = fieldsOf names n 0 (split comma (drop 5 line))
-
-unfoldable pub rowAnswer : List Name → ℕ → List ℕ → RowRead
-rowAnswer names n line = cond (isRule line) (rowFields (lineFields names n line)) (rowRefused 10)
+  -- "On a row: .. 10 [no `rule ` or not eleven commas], then the fields from the left .., then 15
+  -- [least above most] for T, L, A."
+  pub data RowFault (line : List ℕ) : ℕ → Type 0 where
+    misshapen : ((fields : List (List ℕ)) → IsRule line fields → ⊥) → RowFault line 10
+    inField : {fields : List (List ℕ)} {number : ℕ} → IsRule line fields
+        → FirstFault fieldKinds fields number → RowFault line number
+    crossed : {row : Row} → HasFields line row → (Ordered row → ⊥) → RowFault line 15

@@ -13,12 +13,12 @@ ghost use mathlib.Core.Bool.{true};
 ghost use Prim.Native.Nat.{_≤_, _%_};
 ghost use Rattle.letters.specs.Lists.{every};
 ghost use Rattle.letters.specs.Letter.{width};
-ghost use Rattle.text.specs.Split.{count, split, front};
-ghost use Rattle.rows.specs.Row.{rowFrom, isBound, boundField, conditionField, fieldOf};
-ghost use Rattle.rows.specs.Row.{faultOf, lineFields, boundsFrom, rowRead};
+ghost use Rattle.text.specs.Lines.{count};
+ghost use Rattle.text.specs.inner.Cut.{front};
+ghost use Rattle.rows.specs.inner.Row.{rowFrom, boundAt, boundField, conditionField, fieldOf};
+ghost use Rattle.rows.specs.inner.Row.{faultOf, lineFields, boundsFrom, rowRead, rowRefused};
+ghost use Rattle.rows.specs.inner.Row.{rowAnswer};
 ghost use Rattle.rows.specs.inner.Gathering.{valuesAnswer};
-ghost use Rattle.rows.specs.Row.{rowRefused};
-ghost use Rattle.rows.specs.Row.{rowAnswer};
 
 pub const BOUNDS: usize = 6;
 
@@ -54,7 +54,7 @@ pub fn row_of(sets: [u64; CONDITIONS], bounds: [u8; BOUNDS]) -> Row
 
 // Whether field k, counted from 0, is a bound.
 fn is_bound(k: usize) -> bool
-    ensures { λ r. ⌜ r ≡ isBound k ⌝ }
+    ensures { λ r. ⌜ r ≡ boundAt k ⌝ }
 {
     (3 <= k) & (k <= 6) | (10 <= k)
 }

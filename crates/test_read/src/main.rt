@@ -47,7 +47,7 @@ fn print_names(names: [Name; MOST_SIGNALS], count: u8) {
     }
 }
 
-// A word, and six numbers behind it.
+// A word, and six numbers after it.
 fn print_numbers(word: &[u8], numbers: [u64; CONDITIONS]) {
     print(word);
     for i in 0..CONDITIONS {

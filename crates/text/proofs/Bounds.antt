@@ -12,8 +12,9 @@ use lib.ListN.{length, getD}
 use Rattle.letters.specs.Lists.{every}
 use Rattle.letters.proofs.Lists.{and-left, and-right, every-append}
 use Rattle.text.specs.Bounds.{digits, decimal, IsBound}
-use Rattle.text.specs.Bounds.{within, oneDigit, twoDigits, boundOf}
-use Rattle.text.specs.Split.{count}
+use Rattle.text.specs.inner.Bounds.{within, oneDigit, twoDigits, boundOf}
+use Rattle.text.specs.Lines.{count}
+use Rattle.text.specs.declared.Bound.{Bound}
 use Rattle.text.specs.declared.Bound.the-variants.{Value, Wrong}
 use Rattle.text.proofs.Decimals.{decimal-few, decimal-more}
 use Rattle.text.proofs.Joins.{passing-free}
@@ -95,6 +96,13 @@ boundOf-right [] n e = absurd (let z : _≡_ {A = ℕ} 0 1 = cc in omega arith)
 boundOf-right (a ∷ []) n e = oneDigit-right a n e
 boundOf-right (a ∷ b ∷ []) n e = twoDigits-right a b n e
 boundOf-right (a ∷ b ∷ c ∷ xs) n e = absurd (let z : _≡_ {A = ℕ} 0 1 = cc in omega arith)
+
+pub boundOf-none : (xs : List ℕ) → ((n : ℕ) → IsBound xs n → ⊥) → boundOf xs ≡ Wrong
+boundOf-none xs h = go (boundOf xs) refl
+  where
+    go : (b : Bound) → boundOf xs ≡ b → b ≡ Wrong
+    go (Value n) e = absurd (h n (boundOf-right xs n e))
+    go Wrong e = refl
 
 pub boundOf-value-small : (xs : List ℕ) (n : ℕ) → boundOf xs ≡ Value n → n ≤ 60
 boundOf-value-small xs n e = boundOf-right xs n e .small

@@ -5,7 +5,7 @@ use mathlib.Core.List.{List}
 use mathlib.Core.Path.{_≡_, sym}
 use lib.ListN.{length, take, drop, length-drop}
 use lib.Seq.{take-all}
-use Rattle.text.specs.Split.{front}
+use Rattle.text.specs.inner.Cut.{front}
 use Rattle.text.proofs.Splits.{front-take}
 
 -- `&l[a..]`.

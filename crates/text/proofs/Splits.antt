@@ -1,4 +1,4 @@
--- Bytes cut at a byte: what `split`, `front`, `behind` and `count` say of each other.
+-- Bytes cut at a byte: what `split`, `front`, `after` and `count` say of each other.
 -- Assumes nothing.
 use Prim.Native.Nat.{ℕ, suc, _+_, _<_, _≤_}
 use borrow.Author.Tests.{eqb-true, eq-eqb, ne-eqb}
@@ -11,7 +11,8 @@ use mathlib.Core.Path.{_≡_, refl, sym, ap, _∙_}
 use lib.Dec.{eqb}
 use lib.ListN.{length, getD, take, drop, length-append, length-take, drop-of-length-le}
 use lib.Seq.{drop-cons, drop-append-add}
-use Rattle.text.specs.Split.{count, longer, split, front, behind}
+use Rattle.text.specs.Lines.{count}
+use Rattle.text.specs.inner.Cut.{longer, split, front, after}
 
 -- A byte is b, or it is another.
 either : (t : Bool) → (t ≡ true) ⊎ (t ≡ false)
@@ -72,24 +73,24 @@ module _ (b : ℕ) where
   split-front [] h = refl
   split-front (x ∷ xs) h = let none = count-none x xs h in rw (none .0, split-front xs (none .1))
 
-  -- The same, with b and more bytes behind them.
+  -- The same, with b and more bytes after them.
   pub front-append : (xs ys : List ℕ) → count b xs ≡ 0 → front b (xs ++ b ∷ ys) ≡ xs
   unfolding front
   front-append [] ys h = rw (eq-eqb b b refl)
   front-append (x ∷ xs) ys h =
       let none = count-none x xs h in rw (none .0, front-append xs ys (none .1))
 
-  pub behind-append : (xs ys : List ℕ) → count b xs ≡ 0 → behind b (xs ++ b ∷ ys) ≡ ys
-  unfolding behind
-  behind-append [] ys h = rw (eq-eqb b b refl)
-  behind-append (x ∷ xs) ys h =
-      let none = count-none x xs h in rw (none .0, behind-append xs ys (none .1))
+  pub after-append : (xs ys : List ℕ) → count b xs ≡ 0 → after b (xs ++ b ∷ ys) ≡ ys
+  unfolding after
+  after-append [] ys h = rw (eq-eqb b b refl)
+  after-append (x ∷ xs) ys h =
+      let none = count-none x xs h in rw (none .0, after-append xs ys (none .1))
 
   pub append-injective : (xs ys us vs : List ℕ) → count b xs ≡ 0 → count b us ≡ 0
       → xs ++ b ∷ ys ≡ us ++ b ∷ vs → (xs ≡ us) × (ys ≡ vs)
   append-injective xs ys us vs h g e = (
     sym (front-append xs ys h) ∙ ap (front b) e ∙ front-append us vs g,
-    sym (behind-append xs ys h) ∙ ap (behind b) e ∙ behind-append us vs g,
+    sym (after-append xs ys h) ∙ ap (after b) e ∙ after-append us vs g,
   )
 
   pub split-append : (xs ys : List ℕ) → count b xs ≡ 0
@@ -99,36 +100,36 @@ module _ (b : ℕ) where
   split-append (x ∷ xs) ys h =
       let none = count-none x xs h in rw (none .0, split-append xs ys (none .1))
 
-  -- Bytes with a b among them are the front, b, and what stands behind.
-  pub front-behind : (xs : List ℕ) → 0 < count b xs → front b xs ++ b ∷ behind b xs ≡ xs
-  unfolding front behind count
-  front-behind [] h = absurd (omega arith)
-  front-behind (x ∷ xs) h =
+  -- Bytes with a b among them are the front, b, and what stands after.
+  pub front-after : (xs : List ℕ) → 0 < count b xs → front b xs ++ b ∷ after b xs ≡ xs
+  unfolding front after count
+  front-after [] h = absurd (omega arith)
+  front-after (x ∷ xs) h =
       ⊎-elim
       (λ e. rw e (rw (eqb-true x b e)))
-      (λ e. rw (e, front-behind xs (rw e at h)))
+      (λ e. rw (e, front-after xs (rw e at h)))
       (either (eqb x b))
 
   module _ (xs : List ℕ) (h : 0 < count b xs) where
-    pub split-cons : split b xs ≡ front b xs ∷ split b (behind b xs)
+    pub split-cons : split b xs ≡ front b xs ∷ split b (after b xs)
     split-cons =
-        ap (split b) (sym (front-behind xs h))
-        ∙ split-append (front b xs) (behind b xs) (count-front xs)
+        ap (split b) (sym (front-after xs h))
+        ∙ split-append (front b xs) (after b xs) (count-front xs)
 
-    pub count-behind : count b xs ≡ suc (count b (behind b xs))
+    pub count-after : count b xs ≡ suc (count b (after b xs))
     unfolding count
-    count-behind =
-        ap (count b) (sym (front-behind xs h))
-        ∙ count-append (front b xs) (b ∷ behind b xs)
+    count-after =
+        ap (count b) (sym (front-after xs h))
+        ∙ count-append (front b xs) (b ∷ after b xs)
         ∙ rw (count-front xs, eq-eqb b b refl) (omega arith)
 
-    pub behind-drop : behind b xs ≡ drop (length (front b xs) + 1) xs
-    behind-drop =
-        sym (drop-append-add (front b xs) (b ∷ behind b xs) 1)
-        ∙ ap (drop (length (front b xs) + 1)) (front-behind xs h)
+    pub after-drop : after b xs ≡ drop (length (front b xs) + 1) xs
+    after-drop =
+        sym (drop-append-add (front b xs) (b ∷ after b xs) 1)
+        ∙ ap (drop (length (front b xs) + 1)) (front-after xs h)
 
     pub front-short : length (front b xs) < length xs
-    front-short = omega (arith, simp length-append at (ap length (front-behind xs h)))
+    front-short = omega (arith, simp length-append at (ap length (front-after xs h)))
 
 -- A loop's turn at place i: `-next` at another byte, `-stop` and `-more` at b, `-end` past the last
 -- place.

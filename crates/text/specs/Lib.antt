@@ -1,4 +1,5 @@
--- Bytes: cut at a byte into lines and fields, and bounds in base ten.
-pub mod Split
+-- Bytes: of a text, put together from lines and pieces, and of numbers in base ten (number 14).
+pub mod Bytes
 pub mod Lines
 pub mod Bounds
+pub mod inner

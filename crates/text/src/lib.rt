@@ -2,8 +2,9 @@
 // specs/Split.antt and specs/Bounds.antt say what is right.
 ghost use mathlib.Core.Path.{_≡_};
 ghost use lib.ListN.{length};
-ghost use Rattle.text.specs.Split.{startsWith, front, count};
-ghost use Rattle.text.specs.Bounds.{oneDigit, twoDigits, boundOf};
+ghost use Rattle.text.specs.inner.Cut.{startsWith, front};
+ghost use Rattle.text.specs.Lines.{count};
+ghost use Rattle.text.specs.inner.Bounds.{oneDigit, twoDigits, boundOf};
 
 // What a field for a bound holds.
 pub enum Bound {

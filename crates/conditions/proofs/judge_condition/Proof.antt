@@ -1,6 +1,6 @@
 -- `conditions::judge_condition` meets its contract. Assumes nothing.
 use borrow.Author.Needs.{needs}
-use Rattle.conditions.specs.Judge.{judge}
+use Rattle.conditions.specs.inner.Judge.{judge}
 use Rattle.conditions.proofs.judge_condition.Statement.{statement}
 use Rattle.conditions.proofs.judge_condition.Tie as tie
 

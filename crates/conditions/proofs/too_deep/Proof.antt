@@ -7,7 +7,7 @@ use native.Mathlib.Omega.{arith}
 use mathlib.Core.Path.{_≡_, sym, _∙_}
 use lib.ListN.{length, getD, drop}
 use Rattle.conditions.specs.Bytes.{opening, closing}
-use Rattle.conditions.specs.Depth.{deep}
+use Rattle.conditions.specs.inner.Judge.{deep}
 use Rattle.conditions.proofs.Depth.{deep-next, deep-stop, deep-end, one-most}
 use Rattle.conditions.proofs.too_deep.Statement.{statement}
 use Rattle.conditions.proofs.too_deep.Tie as tie

@@ -5,7 +5,7 @@ use Rattle.header.proofs.HeaderLaws.{header-version}
 use borrow.Author.Tests.{not-true, not-false}
 use mathlib.Core.Bool.{Bool, true, false, _&&_, cond}
 use mathlib.Core.Path.{_≡_, sym, _∙_}
-use Rattle.header.specs.Header.{headerNumber}
+use Rattle.header.specs.inner.Header.{headerNumber}
 use borrow.Author.Needs.{needs}
 use Rattle.header.proofs.check_header.Statement.{statement}
 use Rattle.header.proofs.check_header.Tie as tie

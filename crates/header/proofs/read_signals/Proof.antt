@@ -2,27 +2,24 @@
 -- names, and those of the first six are kept. The measure: how many bytes are left. Assumes
 -- nothing.
 use Rattle.header.proofs.SignalLaws.{ends-none, ends-many, ends-twice, ends-good}
+use Rattle.header.proofs.SignalLaws.{naming-starts, naming-stops, naming-next, answer-word}
+use Rattle.header.proofs.SignalLaws.{answer-name, Naming}
 use Rattle.header.specs.inner.Gathering.{nameAdded}
 use Rattle.letters.proofs.Lists.{sameBytes-true, sameBytes-false}
 use Rattle.header.proofs.HeaderLaws.{name-short}
 use borrow.Author.Tests.{not-true, not-false}
 use native.Mathlib.Omega.{arith}
-use mathlib.Core.List.{[], _∷_, _++_}
+use mathlib.Core.List.{[], _∷_, _++_, List}
 use mathlib.Core.Path.{_≡_, sym, ap, _∙_}
-use lib.ListN.{take, drop, length-drop}
+use lib.ListN.{take, drop, length-drop, length}
 use lib.Seq.{take-all}
-use Rattle.text.specs.Split.{front}
+use Rattle.text.specs.inner.Cut.{front}
 use Rattle.text.proofs.Splits.{front-length, front-take}
 use Rattle.conditions.specs.Condition.{nameOf}
-use Rattle.header.specs.Header.{isName, signalsWord}
+use Rattle.header.specs.inner.Header.{nameShaped}
+use Rattle.header.specs.Header.{signalsWord}
 use Rattle.text.proofs.Parts.{rest-whole, part-front}
-use Rattle.header.proofs.SignalLaws.{naming-starts, naming-stops, naming-next}
-use Rattle.header.proofs.SignalLaws.{answer-word, answer-name}
-use mathlib.Core.List.{List}
-use Prim.Native.Nat.{ℕ}
-use lib.ListN.{length}
-use Rattle.header.proofs.SignalLaws.{Naming}
-use Prim.Native.Nat.{_≤_, _-_, _+_}
+use Prim.Native.Nat.{ℕ, _≤_, _-_, _+_}
 use borrow.Author.Needs.{needs}
 use Rattle.header.proofs.read_signals.Statement.{statement}
 use Rattle.header.proofs.read_signals.Tie as tie
@@ -80,8 +77,8 @@ module _ (c : tie.After-find2 Inv-loop μ-loop) where
       ap (λ (k : ℕ). take k (drop from whole)) e ∙ part-front 32 (drop from whole) found
 
 told : (c : tie.After-is-name Inv-loop μ-loop)
-    → isName (word (c .before .before)) ≡ c .is-name .result
-told c = ap isName (sym (part (c .before .before))) ∙ sym (c .is-name .ensures)
+    → nameShaped (word (c .before .before)) ≡ c .is-name .result
+told c = ap nameShaped (sym (part (c .before .before))) ∙ sym (c .is-name .ensures)
 
 returns : tie.Need-returns Inv-loop μ-loop
 returns c =

@@ -4,13 +4,13 @@ use native.Mathlib.Omega.{arith}
 use mathlib.Core.List.{List}
 use mathlib.Core.Path.{_≡_, sym, ap, _∙_}
 use lib.ListN.{length, getD}
-use Rattle.text.specs.Split.{front}
-use Rattle.text.specs.Lines.{LF, lines}
-use Rattle.header.specs.Header.{headerNumber}
-use Rattle.reader.specs.File.{bodyAnswer}
+use Rattle.text.specs.inner.Cut.{front, lines}
+use Rattle.text.specs.Lines.{LF}
+use Rattle.header.specs.inner.Header.{headerNumber}
+use Rattle.reader.specs.inner.File.{bodyAnswer}
 use Rattle.text.proofs.Parts.{part-front}
-use Rattle.reader.proofs.FileLaws.{read-empty, read-long, read-open, file-refused, file-body}
-use Rattle.reader.proofs.FileLaws.{behind-part}
+use Rattle.reader.proofs.Lines.{read-empty, read-long, read-open, file-refused, file-body}
+use Rattle.reader.proofs.Lines.{after-part}
 use borrow.Author.Needs.{needs}
 use Rattle.reader.proofs.read.Statement.{statement}
 use Rattle.reader.proofs.read.Tie as tie
@@ -65,7 +65,7 @@ returns-5 c =
     let p = c .before .before in
     c .read-body .ensures
     ∙ ap (λ (l : List ℕ). bodyAnswer (lines l))
-    (behind-part (bytes h) (h .before .before .find .result) (p .past .result) (found h)
+    (after-part (bytes h) (h .before .before .find .result) (p .past .result) (found h)
     (p .past .ensures))
     ∙ sym (file-body (bytes h) (some h) (short h) (ended h) (h .check-header .result) (number-is h)
     (c .before .before .before .if4 .left))

@@ -3,12 +3,12 @@ use Prim.Native.Nat.{ℕ}
 use mathlib.Core.List.{List}
 use mathlib.Core.Path.{_≡_, sym, ap, _∙_}
 use lib.ListN.{length}
-use Rattle.text.specs.Split.{split, front}
-use Rattle.text.specs.Lines.{LF, lines}
-use Rattle.header.specs.Header.{signalsAnswer}
-use Rattle.reader.specs.File.{rowsAnswer}
+use Rattle.text.specs.inner.Cut.{split, front, lines}
+use Rattle.text.specs.Lines.{LF}
+use Rattle.header.specs.inner.Header.{signalsAnswer}
+use Rattle.reader.specs.inner.File.{rowsAnswer}
 use Rattle.text.proofs.Parts.{part-front}
-use Rattle.reader.proofs.FileLaws.{body-none, body-refused, body-rows, behind-part}
+use Rattle.reader.proofs.Lines.{body-none, body-refused, body-rows, after-part}
 use borrow.Author.Needs.{needs}
 use Rattle.reader.proofs.read_body.Statement.{statement}
 use Rattle.reader.proofs.read_body.Tie as tie
@@ -50,7 +50,7 @@ returns-3 c =
     let p = c .before .before in
     c .read-rows .ensures
     ∙ ap (λ (l : List ℕ). rowsAnswer (read .names) (read .count) (lines l))
-    (behind-part (rest s) (s .before .before .find .result) (p .past .result) (found s)
+    (after-part (rest s) (s .before .before .find .result) (p .past .result) (found s)
     (p .past .ensures))
     ∙ sym (body-rows (rest s) (some s) read (read-is s)
     (c .before .before .before .before .if2 .left))

@@ -1,27 +1,24 @@
 -- `reader::read_rows` meets its contract. The invariant: n rows are read, up to the place `at`, and
 -- their sets and bounds are gathered. The measure: how many bytes are left. Assumes nothing.
-use Rattle.reader.specs.File.{refusedFile}
-use lib.ListN.{length-map}
+use Rattle.reader.specs.Reading.{refusedFile}
+use lib.ListN.{length-map, length, take, drop, length-drop}
 use Rattle.letters.specs.Letter.{width}
-use Rattle.rows.specs.Row.{rowAnswer}
-use Rattle.reader.specs.File.{rowOf}
+use Rattle.rows.specs.inner.Row.{rowAnswer}
+use Rattle.reader.specs.inner.File.{rowOf}
 use Rattle.table.specs.declared.Outcome.the-variants.{Accepted}
-use Rattle.reader.proofs.FileLaws.{rows-none, rows-bad, rows-good}
+use Rattle.reader.proofs.Gathering.{rows-none, rows-fault, rows-accepted, Gathering}
+use Rattle.reader.proofs.Gathering.{gathering-starts, gathering-step, gathering-fault}
+use Rattle.reader.proofs.Gathering.{gathering-ninth, gathering-ends, gathered-all}
 use native.Mathlib.Omega.{arith}
-use Prim.Native.Nat.{ℕ}
+use Prim.Native.Nat.{ℕ, _≤_, _-_, _+_}
 use mathlib.Core.List.{List, [], _∷_, _++_}
 use mathlib.Core.Path.{_≡_, sym, ap, ap₂, _∙_}
-use lib.ListN.{length, take, drop, length-drop}
 use Rattle.table.specs.declared.Row.{Row}
-use Rattle.text.specs.Split.{front}
+use Rattle.text.specs.inner.Cut.{front}
 use Rattle.text.proofs.Splits.{front-length}
 use Rattle.text.specs.Lines.{LF}
 use Rattle.rows.specs.declared.RowRead.{RowRead}
 use Rattle.text.proofs.Parts.{rest-whole, part-front}
-use Rattle.reader.proofs.FileLaws.{Gathering, gathering-starts, gathering-step}
-use Rattle.reader.proofs.FileLaws.{gathering-bad, gathering-ninth}
-use Rattle.reader.proofs.FileLaws.{gathering-ends, gathered-all}
-use Prim.Native.Nat.{_≤_, _-_, _+_}
 use borrow.Author.Needs.{needs}
 use Rattle.reader.proofs.read_rows.Statement.{statement}
 use Rattle.reader.proofs.read_rows.Tie as tie
@@ -87,7 +84,7 @@ returns-2 : tie.Need-returns-2 Inv-loop μ-loop
 returns-2 c =
     let t = c .before .before in
     let inv = t .before .loop .inv .1 in
-    c .refused2 .ensures ∙ sym (rows-bad _ _ _ (inv .1 .1) _ _
+    c .refused2 .ensures ∙ sym (rows-fault _ _ _ (inv .1 .1) _ _
     (gathering-ninth _ _ _ _ _ _ _ _ (inv .0) (t .loop-test .taken) (c .before .if2 .taken)))
 
 add-end : tie.Need-add-end Inv-loop μ-loop
@@ -104,8 +101,8 @@ returns-3 c =
     let inv = q .loop .inv .1 in
     c .refused3 .ensures ∙ ap (λ (x : RowRead). refusedFile (x .number) (q .loop .n + 3))
     (read-is r)
-    ∙ sym (rows-bad _ _ _ (inv .1 .1) _ _
-    (gathering-bad _ _ _ _ _ _ _ _ (inv .0) (turn f .loop-test .taken)
+    ∙ sym (rows-fault _ _ _ (inv .1 .1) _ _
+    (gathering-fault _ _ _ _ _ _ _ _ (inv .0) (turn f .loop-test .taken)
     (f .before .before .if2 .left)
     (λ z. c .before .if3 .taken (ap (λ (x : RowRead). x .number) (read-is r) ∙ z))))
 
@@ -148,7 +145,7 @@ returns-4 c =
     })
     (sym (length-map (q .loop .inv .0) rowOf ∙ g .many))
     (c .rows-of .ensures ∙ gathered-all _ _ _ _ _ _ _ _ g)
-    ∙ sym (rows-good _ _ _ (inv .1 .1) _
+    ∙ sym (rows-accepted _ _ _ (inv .1 .1) _
     (gathering-ends _ _ _ _ _ _ _ _ g (c .before .loop-test .left)))
 
 pub read-rows-spec : {M : Type 1} → statement M

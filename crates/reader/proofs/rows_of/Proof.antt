@@ -3,7 +3,7 @@
 use lib.ListN.{length}
 use mathlib.Core.Path.{_≡_}
 use Rattle.table.specs.Limits.{mostRows}
-use Rattle.reader.proofs.FileLaws.{Filled, filled-first, filled-next, filled-all}
+use Rattle.reader.proofs.Gathering.{Filled, filled-first, filled-next, filled-all}
 use Prim.Native.Nat.{_-_}
 use borrow.Author.Needs.{needs}
 use Rattle.reader.proofs.rows_of.Statement.{statement}

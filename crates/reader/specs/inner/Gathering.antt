@@ -2,7 +2,7 @@
 use Prim.Native.Nat.{ℕ}
 use mathlib.Core.List.{List, [], _∷_}
 use Rattle.table.specs.declared.Row.{Row}
-use Rattle.rows.specs.Row.{rowFrom}
+use Rattle.rows.specs.inner.Row.{rowFrom}
 
 -- The rows, of arrays of sets and of bounds, place by place.
 unfoldable pub gathered : List (List ℕ) → List (List ℕ) → List Row

@@ -5,7 +5,7 @@ use borrow.Author.Tests.{not-true, not-false}
 use borrow.Author.Needs.{needs}
 use mathlib.Core.List.{List, [], _∷_}
 use mathlib.Core.Path.{_≡_, sym, _∙_}
-use Rattle.rows.specs.Row.{boundsFrom}
+use Rattle.rows.specs.inner.Row.{boundsFrom}
 use Rattle.rows.proofs.RowLaws.{cut-same, row-ordered, row-crossed}
 use Rattle.rows.proofs.judge_row.Statement.{statement}
 use Rattle.rows.proofs.judge_row.Tie as tie

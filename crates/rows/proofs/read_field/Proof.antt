@@ -3,8 +3,8 @@
 use borrow.Author.Needs.{needs}
 use mathlib.Core.Path.{_≡_, sym, ap, _∙_}
 use lib.ListN.{length, take}
-use Rattle.text.specs.Split.{front}
-use Rattle.rows.specs.Row.{fieldOf}
+use Rattle.text.specs.inner.Cut.{front}
+use Rattle.rows.specs.inner.Row.{fieldOf}
 use Rattle.text.proofs.Parts.{part-front}
 use Rattle.rows.proofs.read_field.Statement.{statement}
 use Rattle.rows.proofs.read_field.Tie as tie

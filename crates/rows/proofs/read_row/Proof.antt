@@ -6,8 +6,9 @@ use mathlib.Core.Bool.{true}
 use mathlib.Core.Path.{_≡_, sym, _∙_}
 use lib.ListN.{take}
 use Rattle.letters.specs.Lists.{sameBytes}
-use Rattle.text.specs.Split.{count}
-use Rattle.rows.specs.Row.{ruleWord, rowAnswer}
+use Rattle.text.specs.Lines.{count}
+use Rattle.rows.specs.Row.{ruleWord}
+use Rattle.rows.specs.inner.Row.{rowAnswer}
 use Rattle.rows.proofs.RowLaws.{rule-length, rule-commas, row-fault, row-good, values-held}
 use Rattle.rows.proofs.RowLaws.{bounds-low}
 use Rattle.rows.proofs.read_row.Statement.{statement}

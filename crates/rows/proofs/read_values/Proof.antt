@@ -7,8 +7,8 @@ use native.Mathlib.Omega.{arith}
 use mathlib.Core.Path.{_≡_, sym, _∙_}
 use lib.ListN.{length, take, drop}
 use Rattle.letters.specs.Letter.{width}
-use Rattle.text.specs.Split.{front}
-use Rattle.rows.specs.Row.{fieldOf}
+use Rattle.text.specs.inner.Cut.{front}
+use Rattle.rows.specs.inner.Row.{fieldOf}
 use Rattle.text.proofs.Parts.{rest-whole}
 use Rattle.rows.proofs.RowLaws.{Gathered, Here, here-front, gathered-none, gathered-next}
 use Rattle.rows.proofs.RowLaws.{gathered-fault, gathered-all}

@@ -6,7 +6,7 @@ use native.Mathlib.Omega.{arith}
 use mathlib.Core.Logic.{⊎-elim}
 use mathlib.Core.Path.{_≡_}
 use lib.ListN.{length, drop}
-use Rattle.text.specs.Split.{count}
+use Rattle.text.specs.Lines.{count}
 use Rattle.text.proofs.Splits.{count-next, count-more, count-end}
 use Rattle.text.proofs.count_of.Statement.{statement}
 use Rattle.text.proofs.count_of.Tie as tie

@@ -1,19 +1,15 @@
 -- Bytes cut at each place of a byte: lines at LF, fields at commas, words at spaces.
-use Prim.Native.Nat.{ℕ, suc}
+use Prim.Native.Nat.{ℕ}
 use mathlib.Core.Bool.{Bool, cond}
 use mathlib.Core.List.{List, [], _∷_}
 use lib.Dec.{eqb}
 use lib.ListN.{length, take}
 use Rattle.letters.specs.Lists.{sameBytes}
+use Rattle.text.specs.Lines.{LF}
 
 -- What the bytes begin with.
 abbrev pub startsWith : List ℕ → List ℕ → Bool
 startsWith word xs = sameBytes (take (length word) xs) word
-
--- How often a byte stands in a list.
-unfoldable pub count : ℕ → List ℕ → ℕ
-count b [] = 0
-count b (x ∷ xs) = cond (eqb x b) (suc (count b xs)) (count b xs)
 
 -- The pieces between the places of b: one more than there are such places.
 abbrev pub longer : ℕ → List (List ℕ) → List (List ℕ)
@@ -29,6 +25,16 @@ unfoldable pub front : ℕ → List ℕ → List ℕ
 front b [] = []
 front b (x ∷ xs) = cond (eqb x b) [] (x ∷ front b xs)
 
-unfoldable pub behind : ℕ → List ℕ → List ℕ
-behind b [] = []
-behind b (x ∷ xs) = cond (eqb x b) xs (behind b xs)
+unfoldable pub after : ℕ → List ℕ → List ℕ
+after b [] = []
+after b (x ∷ xs) = cond (eqb x b) xs (after b xs)
+
+-- The lines. Bytes after the last LF would be a line too; a file that has such bytes is refused
+-- with 3 before it is cut.
+abbrev pub prefixed : ℕ → List (List ℕ) → List (List ℕ)
+prefixed x [] = (x ∷ []) ∷ []
+prefixed x (line ∷ more) = (x ∷ line) ∷ more
+
+unfoldable pub lines : List ℕ → List (List ℕ)
+lines [] = []
+lines (x ∷ xs) = cond (eqb x LF) ([] ∷ lines xs) (prefixed x (lines xs))

@@ -1,0 +1,30 @@
+-- What the code says of a condition: `proofs/Judging.antt` shows that it is right, and the only
+-- right one.
+use Prim.Native.Nat.{ℕ, _+_}
+use mathlib.Core.Bool.{Bool, false, _||_, cond}
+use mathlib.Core.List.{List, [], _∷_}
+use lib.Dec.{eqb, ltb}
+use Rattle.table.specs.declared.Name.{Name}
+use Rattle.conditions.specs.Bytes.{opening, closing}
+use Rattle.conditions.specs.inner.Reading.{conditionOf}
+use Rattle.conditions.specs.declared.Read.{Read}
+use Rattle.conditions.specs.declared.Read.the-variants.{Set, Nothing}
+use Rattle.conditions.specs.declared.Judged.{Judged}
+use Rattle.conditions.specs.declared.Judged.the-variants.{Letters, Refused}
+
+-- Two counters that run along, of o opening and c closing ones: over 8 are open after some byte.
+abbrev pub one : ℕ → ℕ → ℕ
+one b x = cond (eqb b x) 1 0
+
+unfoldable pub deep : ℕ → ℕ → List ℕ → Bool
+deep o c [] = false
+deep o c (b ∷ xs) =
+    ltb (c + one b closing + 8) (o + one b opening) || deep (o + one b opening) (c + one b closing)
+    xs
+
+abbrev pub verdictOf : Read → Judged
+verdictOf (Set v u next) = cond u (Refused 13) (Letters v)
+verdictOf Nothing = Refused 12
+
+unfoldable pub judge : List Name → ℕ → List ℕ → Judged
+judge names n xs = cond (deep 0 0 xs) (Refused 11) (verdictOf (conditionOf names n xs))

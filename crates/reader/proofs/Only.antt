@@ -1,0 +1,199 @@
+-- An answer that is right is the computed one. Assumes nothing.
+use Prim.Native.Nat.{ℕ, suc, _+_, _-_, _<_, _≤_}
+use borrow.Author.Tests.{ne-eqb, lt-ltb}
+use native.Mathlib.Omega.{arith}
+use mathlib.Core.List.{List, [], _∷_, _++_, map, append-nil}
+use mathlib.Core.Path.{_≡_, refl, sym, ap, _∙_}
+use lib.ListN.{length, getD, take, length-append, length-map}
+use lib.Seq.{take-at, getD-append-seam}
+use Rattle.letters.specs.Letter.{width}
+use Rattle.table.specs.Limits.{mostRows}
+use Rattle.table.specs.declared.Row.{Row}
+use Rattle.table.specs.declared.Table.{Table}
+use Rattle.text.specs.Lines.{LF, space, ended}
+use Rattle.text.specs.inner.Cut.{split, lines}
+use Rattle.text.proofs.Joins.{lines-ended, ended-last}
+use Rattle.conditions.specs.Condition.{nameOf}
+use Rattle.header.specs.Header.{PNP, version1, namesFrom}
+use Rattle.header.specs.inner.Header.{signalsAnswer}
+use Rattle.header.specs.declared.Signals.{Signals}
+use Rattle.header.proofs.Shapes.{header-first, header-other, header-none, header-right}
+use Rattle.header.proofs.Shapes.{signals-many, signals-twice, signals-read, signals-none}
+use Rattle.rows.specs.Row.{RowFault}
+use Rattle.rows.specs.inner.Row.{rowAnswer}
+use Rattle.rows.specs.declared.RowRead.{RowRead}
+use Rattle.rows.proofs.Rules.{row-read, fault-read}
+use Rattle.reader.specs.Reading.{tableFrom, accepted, refusedFile}
+use Rattle.reader.specs.Grammar.{AreLines, Begins, Each, none, and, AreRows, IsFile}
+use Rattle.reader.specs.Right.{RightReading, is1, is2, is3, is4, is5, is6missing, is6, is7}
+use Rattle.reader.specs.Right.{is8, is9, isFault, is16, isTable}
+use Rattle.reader.specs.inner.File.{Rows, rowsRead, fault, afterRow, rowOf, rowsFrom}
+use Rattle.reader.specs.inner.File.{rowsReading, rowsAnswer, afterSignals, bodyAnswer}
+use Rattle.reader.specs.inner.File.{fileAnswer, readAnswer}
+use Rattle.reader.specs.declared.Reading.{Reading}
+use Rattle.reader.proofs.Lines.{read-empty, read-long, read-open, read-lines}
+use Rattle.reader.proofs.Gathering.{afterRows}
+
+pub each-length : {A B : Type 0} {R : A → B → Type 0} {l : List A} {m : List B} → Each R l m
+    → length m ≡ length l
+each-length none = refl
+each-length (and h more) = ap suc (each-length more)
+
+-- The names that a table value keeps, without the unused ones.
+pub names-taken : (names : List (List ℕ))
+    → take (length names) (namesFrom names) ≡ map nameOf names
+names-taken names = take-at (map nameOf names) _ (length names) (length-map names nameOf)
+
+after-none : (rows : Rows) → rows ≡ afterRows [] rows
+after-none (rowsRead rows) = refl
+after-none (fault number line) = refl
+
+after-more : (row : Row) (rows : List Row) (rest : Rows)
+    → afterRow row (afterRows rows rest) ≡ afterRows (row ∷ rows) rest
+after-more row rows (rowsRead more) = refl
+after-more row rows (fault number line) = refl
+
+-- The rows, in a file with these names.
+module _ (names : List (List ℕ)) where
+  abbrev rowsAt : ℕ → List (List ℕ) → Rows
+  rowsAt = rowsFrom (namesFrom names) (length names)
+
+  module _ (i : ℕ) (h : i < mostRows) (line : List ℕ) (more : List (List ℕ)) where
+    rows-next : (read : RowRead) → rowAnswer (map nameOf names) (width (length names)) line ≡ read
+        → read .number ≡ 0 → rowsAt i (line ∷ more) ≡ afterRow (rowOf read) (rowsAt (i + 1) more)
+    unfolding rowsFrom
+    rows-next read e z = rw (lt-ltb i mostRows h, names-taken names, e, z)
+
+    rows-stop : (number : ℕ)
+        → RowFault (map nameOf names) (width (length names)) line number
+        → rowsAt i (line ∷ more) ≡ fault number (i + 3)
+    unfolding rowsFrom
+    rows-stop number f =
+        let found = fault-read (map nameOf names) (width (length names)) line number f in
+        rw (lt-ltb i mostRows h, names-taken names, found .0, ne-eqb number 0 (found .1))
+
+  rows-ninth : (line : List ℕ) (more : List (List ℕ))
+      → rowsAt mostRows (line ∷ more) ≡ fault 9 (mostRows + 3)
+  unfolding rowsFrom
+  rows-ninth line more = refl
+
+  rows-after : (i : ℕ) (rules : List (List ℕ)) (rows : List Row) → AreRows names rules rows
+      → i + length rules ≤ mostRows → (rest : List (List ℕ))
+      → rowsAt i (rules ++ rest) ≡ afterRows rows (rowsAt (i + length rules) rest)
+  rows-after i rules rows none h rest =
+      let same : i ≡ i + 0 = omega arith in
+      ap (λ (k : ℕ). rowsAt k rest) same ∙ after-none (rowsAt (i + 0) rest)
+  rows-after i rules rows (and {a} {b} {l} {m} r more) h rest =
+      let same : i + 1 + length l ≡ i + suc (length l) = omega arith in
+      rows-next i (omega arith) a (l ++ rest) _
+      (row-read (map nameOf names) (width (length names)) a b r) refl
+      ∙ ap (afterRow b) (rows-after (i + 1) l m more (omega arith) rest
+      ∙ ap (λ (k : ℕ). afterRows m (rowsAt k rest)) same)
+      ∙ after-more b m (rowsAt (i + suc (length l)) rest)
+
+-- The lines from the top.
+module _ (bytes : List ℕ) where
+  lines-read : (line : List ℕ) (rest : List (List ℕ)) → AreLines bytes (line ∷ rest)
+      → readAnswer bytes ≡ fileAnswer (line ∷ rest)
+  unfolding ended
+  lines-read line rest l =
+      let some : length bytes ≡ 0 → ⊥ = λ e. absurd (let z = ap length (l .bytes-are) in
+      omega (arith, length-append line (LF ∷ ended rest))) in
+      read-lines bytes some (l .few)
+      (ap (λ (xs : List ℕ). getD xs (length xs - 1) 0) (l .bytes-are) ∙ ended-last line rest)
+      ∙ ap fileAnswer (ap lines (l .bytes-are) ∙ lines-ended (line ∷ rest) (l .apart))
+
+  abbrev header : List ℕ
+  header = PNP ++ version1
+
+  body-read : (body : List (List ℕ)) → AreLines bytes (header ∷ body)
+      → readAnswer bytes ≡ bodyAnswer body
+  unfolding fileAnswer
+  body-read body l =
+      lines-read header body l ∙ rw (header-first header version1 header-right refl)
+
+  signals-next : (line : List ℕ) (rest : List (List ℕ)) → AreLines bytes (header ∷ line ∷ rest)
+      → readAnswer bytes ≡ afterSignals (signalsAnswer (split space line)) rest
+  unfolding bodyAnswer
+  signals-next line rest l = body-read (line ∷ rest) l
+
+  rules-next : (names rules : List (List ℕ)) → Begins bytes names rules
+      → readAnswer bytes ≡ rowsAnswer (namesFrom names) (length names) rules
+  rules-next names rules b =
+      let n = b .named in
+      signals-next (n .line2) rules (n .lines)
+      ∙ ap (λ (r : Signals). afterSignals r rules)
+      (signals-read (n .line2) names (n .signals) (b .few) (b .differ))
+
+  -- The rows of a line that is no row, or the ninth, and of those before it.
+  rows-fault : (names rules : List (List ℕ)) (rows : List Row) (line : List ℕ)
+      (rest : List (List ℕ)) → AreRows names rules rows → length rules ≤ mostRows
+      → (number place : ℕ) → rowsAt names (length rules) (line ∷ rest) ≡ fault number place
+      → Begins bytes names (rules ++ line ∷ rest) → readAnswer bytes ≡ refusedFile number place
+  unfolding rowsAnswer
+  rows-fault names rules rows line rest are few number place e b =
+      rules-next names (rules ++ line ∷ rest) b
+      ∙ some rules
+      ∙ ap (rowsReading (namesFrom names) (length names))
+      (rows-after names 0 rules rows are (omega arith) (line ∷ rest)
+      ∙ ap (afterRows rows) (ap (λ (k : ℕ). rowsAt names k (line ∷ rest)) zero-add ∙ e))
+    where
+      zero-add : 0 + length rules ≡ length rules
+      zero-add = omega arith
+
+      some : (rules : List (List ℕ))
+          → rowsAnswer (namesFrom names) (length names) (rules ++ line ∷ rest)
+          ≡ rowsReading (namesFrom names) (length names) (rowsAt names 0 (rules ++ line ∷ rest))
+      some [] = refl
+      some (rule ∷ rules) = refl
+
+  table-read : (table : Table) → IsFile bytes table → readAnswer bytes ≡ accepted table
+  unfolding rowsAnswer rowsFrom
+  table-read table f =
+      rules-next (f .names) (f .rules) (f .begins)
+      ∙ go (f .rules) (each-length (f .rows-are))
+      (sym (ap (rowsAt (f .names) 0) (append-nil (f .rules)))
+      ∙ rows-after (f .names) 0 (f .rules) (f .rows) (f .rows-are)
+      (omega (arith, f .rows-few, each-length (f .rows-are))) []
+      ∙ ap rowsRead (append-nil (f .rows)))
+      ∙ ap accepted (sym (f .table-is))
+    where
+      go : (rules : List (List ℕ)) → length (f .rows) ≡ length rules
+          → rowsAt (f .names) 0 rules ≡ rowsRead (f .rows)
+          → rowsAnswer (namesFrom (f .names)) (length (f .names)) rules
+          ≡ accepted (tableFrom (length (f .names)) (namesFrom (f .names)) (f .rows))
+      go [] e h = absurd (omega (arith, f .rows-some))
+      go (line ∷ more) e h = ap (rowsReading (namesFrom (f .names)) (length (f .names))) h
+
+  pub read-only : (r : Reading) → RightReading bytes r → readAnswer bytes ≡ r
+  unfolding fileAnswer bodyAnswer rowsAnswer
+  read-only r (is1 e) = read-empty bytes (ap length e)
+  read-only r (is2 h) = read-long bytes (λ e. omega arith) h
+  read-only r (is3 before last e other few) =
+      let long = ap length e ∙ length-append before (last ∷ []) in
+      let end : length bytes - 1 ≡ length before = omega arith in
+      read-open bytes (λ z. omega arith) few (λ z. other (sym (ap (λ (xs : List ℕ). getD xs
+      (length before) 0) e ∙ getD-append-seam before last [] 0) ∙ rw end at z))
+  read-only r (is4 {line} {rest} l h) = lines-read line rest l ∙ rw (header-none line h)
+  read-only r (is5 {line} {version} {rest} l h other) =
+      lines-read line rest l ∙ rw (header-other line version h other)
+  read-only r (is6missing l) = body-read [] l
+  read-only r (is6 {line} {rest} l h) =
+      signals-next line rest l
+      ∙ ap (λ (r : Signals). afterSignals r rest) (signals-none line h)
+  read-only r (is7 {names} {rest} n many) =
+      signals-next (n .line2) rest (n .lines)
+      ∙ ap (λ (r : Signals). afterSignals r rest)
+      (signals-many (n .line2) names (n .signals) many)
+  read-only r (is8 {names} {rest} n few twice) =
+      signals-next (n .line2) rest (n .lines)
+      ∙ ap (λ (r : Signals). afterSignals r rest)
+      (signals-twice (n .line2) names (n .signals) few twice)
+  read-only r (is9 {names} {rules} {rows} line rest b are e) =
+      rows-fault names rules rows line rest are (omega arith) 9 (mostRows + 3)
+      (ap (λ (k : ℕ). rowsAt names k (line ∷ rest)) e ∙ rows-ninth names line rest) b
+  read-only r (isFault {names} {rules} {rows} {number} line rest b are low f) =
+      rows-fault names rules rows line rest are (omega arith) number (length rules + 3)
+      (rows-stop names (length rules) low line rest number f) b
+  read-only r (is16 {names} b) = rules-next names [] b
+  read-only r (isTable {table} f) = table-read table f

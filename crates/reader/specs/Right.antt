@@ -1,0 +1,60 @@
+-- What is to be answered to any bytes: a table, or the first number that fits, with its line.
+-- "Order: 1, 2, 3, then lines from the top; on line 2: 6, 7, 8. On a row: 9, 10, then the fields
+-- from the left .. Then 16 with line 3."
+use Prim.Native.Nat.{ℕ, _+_, _<_, _≤_}
+use mathlib.Core.Bool.{false}
+use mathlib.Core.List.{List, [], _∷_, _++_, map}
+use mathlib.Core.Path.{_≡_}
+use lib.ListN.{length}
+use Rattle.letters.specs.Letter.{width}
+use Rattle.table.specs.Limits.{mostBytes, mostSignals, mostRows}
+use Rattle.table.specs.Name.{allDistinct}
+use Rattle.table.specs.declared.Row.{Row}
+use Rattle.table.specs.declared.Table.{Table}
+use Rattle.text.specs.Lines.{LF}
+use Rattle.conditions.specs.Condition.{nameOf}
+use Rattle.header.specs.Header.{PNP, version1, IsHeader, IsSignals}
+use Rattle.rows.specs.Row.{RowFault}
+use Rattle.reader.specs.Grammar.{AreLines, Named, Begins, AreRows, IsFile}
+use Rattle.reader.specs.Reading.{accepted, refusedFile}
+use Rattle.reader.specs.declared.Reading.{Reading}
+
+module _ (bytes : List ℕ) where
+  -- "A refusal gives number and line: line 1 for 4 and 5, line 2 for 6 to 8, the row's own line for
+  -- 9 to 15, line 3 for 16, else 0."
+  pub data RightReading : Reading → Type 0 where
+    -- "no bytes"
+    is1 : bytes ≡ [] → RightReading (refusedFile 1 0)
+    -- "over 4,096 bytes"
+    is2 : mostBytes < length bytes → RightReading (refusedFile 2 0)
+    -- "last byte not LF"
+    is3 : (before : List ℕ) (last : ℕ) → bytes ≡ before ++ last ∷ [] → (last ≡ LF → ⊥)
+        → length bytes ≤ mostBytes → RightReading (refusedFile 3 0)
+    -- "line 1 is no `PNP ` and four digits"
+    is4 : {line : List ℕ} {rest : List (List ℕ)} → AreLines bytes (line ∷ rest)
+        → ((version : List ℕ) → IsHeader line version → ⊥) → RightReading (refusedFile 4 1)
+    -- "version not 0001"
+    is5 : {line version : List ℕ} {rest : List (List ℕ)} → AreLines bytes (line ∷ rest)
+        → IsHeader line version → (version ≡ version1 → ⊥) → RightReading (refusedFile 5 1)
+    -- "line 2 missing, misshapen or without a name"
+    is6missing : AreLines bytes ((PNP ++ version1) ∷ []) → RightReading (refusedFile 6 2)
+    is6 : {line : List ℕ} {rest : List (List ℕ)} → AreLines bytes ((PNP ++ version1) ∷ line ∷ rest)
+        → ((names : List (List ℕ)) → IsSignals line names → ⊥) → RightReading (refusedFile 6 2)
+    -- "over six signals"
+    is7 : {names rest : List (List ℕ)} → Named bytes names rest → mostSignals < length names
+        → RightReading (refusedFile 7 2)
+    -- "a name twice"
+    is8 : {names rest : List (List ℕ)} → Named bytes names rest → length names ≤ mostSignals
+        → allDistinct (map nameOf names) ≡ false → RightReading (refusedFile 8 2)
+    -- "ninth row": whatever it holds
+    is9 : {names rules : List (List ℕ)} {rows : List Row} (line : List ℕ) (rest : List (List ℕ))
+        → Begins bytes names (rules ++ line ∷ rest) → AreRows names rules rows
+        → length rules ≡ mostRows → RightReading (refusedFile 9 (mostRows + 3))
+    -- 10 to 15, of the first line that is no row
+    isFault : {names rules : List (List ℕ)} {rows : List Row} {number : ℕ} (line : List ℕ)
+        (rest : List (List ℕ)) → Begins bytes names (rules ++ line ∷ rest) → AreRows names rules rows
+        → length rules < mostRows → RowFault (map nameOf names) (width (length names)) line number
+        → RightReading (refusedFile number (length rules + 3))
+    -- "no row"
+    is16 : {names : List (List ℕ)} → Begins bytes names [] → RightReading (refusedFile 16 3)
+    isTable : {table : Table} → IsFile bytes table → RightReading (accepted table)
