@@ -1,5 +1,6 @@
 -- What a condition writes is read to its end, with the condition's meaning, where what is left does
 -- not lengthen it. Assumes nothing.
+use Prim.Native.Char.{code}
 use Prim.Native.Nat.{ℕ, zero, suc, _+_, _*_, _<_}
 use native.Mathlib.Omega.{arith}
 use borrow.Author.Tests.{le-ltb, ne-eqb, not-true}
@@ -15,7 +16,6 @@ use Rattle.letters.proofs.Lists.{and-left}
 use Rattle.letters.proofs.Sets.{setOf-or, setOf-and, setOf-others, setOf-false}
 use Rattle.table.specs.Name.{isLetter, letterRun}
 use Rattle.table.specs.declared.Name.{Name}
-use Rattle.conditions.specs.Bytes.{'|', '&', '!', '0', '1', opening, closing}
 use Rattle.conditions.specs.Condition.{IsName, Kind, choice, term, factor, Condition, text}
 use Rattle.conditions.specs.Condition.{nameOf, place, holdsAt, unknown}
 use Rattle.conditions.specs.Condition.Condition.{oneTerm, or, oneFactor, and, negated, named}
@@ -28,8 +28,8 @@ use Rattle.conditions.proofs.Names.{letterRun-append}
 
 -- The byte b lengthens what was read of a kind.
 abbrev goesOn : Kind → ℕ → Bool
-goesOn choice b = isLetter b || eqb b '&' || eqb b '|'
-goesOn term b = isLetter b || eqb b '&'
+goesOn choice b = isLetter b || eqb b (code "&") || eqb b (code "|")
+goesOn term b = isLetter b || eqb b (code "&")
 goesOn factor b = isLetter b
 
 -- What is left does not.
@@ -48,19 +48,19 @@ or-right true b e = absurd (false≢true e)
 
 stops-term : (rest : List ℕ) → stops choice rest ≡ true → stops term rest ≡ true
 stops-term [] e = refl
-stops-term (b ∷ rest) e = or-left (isLetter b || eqb b '&') (eqb b '|') e
+stops-term (b ∷ rest) e = or-left (isLetter b || eqb b (code "&")) (eqb b (code "|")) e
 
 stops-factor : (rest : List ℕ) → stops term rest ≡ true → stops factor rest ≡ true
 stops-factor [] e = refl
-stops-factor (b ∷ rest) e = or-left (isLetter b) (eqb b '&') e
+stops-factor (b ∷ rest) e = or-left (isLetter b) (eqb b (code "&")) e
 
-no-bar : (rest : List ℕ) → stops choice rest ≡ true → begins rest '|' ≡ false
+no-bar : (rest : List ℕ) → stops choice rest ≡ true → begins rest (code "|") ≡ false
 no-bar [] e = refl
-no-bar (b ∷ rest) e = or-right (isLetter b || eqb b '&') (eqb b '|') e
+no-bar (b ∷ rest) e = or-right (isLetter b || eqb b (code "&")) (eqb b (code "|")) e
 
-no-amp : (rest : List ℕ) → stops term rest ≡ true → begins rest '&' ≡ false
+no-amp : (rest : List ℕ) → stops term rest ≡ true → begins rest (code "&") ≡ false
 no-amp [] e = refl
-no-amp (b ∷ rest) e = or-right (isLetter b) (eqb b '&') e
+no-amp (b ∷ rest) e = or-right (isLetter b) (eqb b (code "&")) e
 
 no-letter : (rest : List ℕ) → stops factor rest ≡ true → letterRun rest ≡ 0
 unfolding letterRun
@@ -104,12 +104,12 @@ module _ (names : List Name) (n : ℕ) (s : List ℕ) where
       let ih = complete t f at rest (omega arith) e (stops-term rest q) in
       rw (ih, isAt-drop, drop-past s (text t) rest at e, no-bar rest q)
   complete (or t c) (suc f) at rest h e q =
-      let len = length-append (text t) ('|' ∷ text c) in
-      let first = e ∙ append-assoc (text t) ('|' ∷ text c) rest in
-      let left = drop-past s (text t) ('|' ∷ text c ++ rest) at first in
+      let len = length-append (text t) (code "|" ∷ text c) in
+      let first = e ∙ append-assoc (text t) (code "|" ∷ text c) rest in
+      let left = drop-past s (text t) (code "|" ∷ text c ++ rest) at first in
       let next = at + length (text t) in
-      let second = drop-next s (text c ++ rest) '|' next left in
-      let ih₁ = complete t f at ('|' ∷ text c ++ rest) (omega arith) first refl in
+      let second = drop-next s (text c ++ rest) (code "|") next left in
+      let ih₁ = complete t f at (code "|" ∷ text c ++ rest) (omega arith) first refl in
       let ih₂ = complete c f (next + 1) rest (omega arith) second q in
       rw (ih₁, isAt-drop, left, ih₂)
       (set-path (setOf-or n (holdsAt names t) (holdsAt names c)) (omega arith))
@@ -117,26 +117,26 @@ module _ (names : List Name) (n : ℕ) (s : List ℕ) where
       let ih = complete t f at rest (omega arith) e (stops-factor rest q) in
       rw (ih, isAt-drop, drop-past s (text t) rest at e, no-amp rest q)
   complete (and t c) (suc f) at rest h e q =
-      let len = length-append (text t) ('&' ∷ text c) in
-      let first = e ∙ append-assoc (text t) ('&' ∷ text c) rest in
-      let left = drop-past s (text t) ('&' ∷ text c ++ rest) at first in
+      let len = length-append (text t) (code "&" ∷ text c) in
+      let first = e ∙ append-assoc (text t) (code "&" ∷ text c) rest in
+      let left = drop-past s (text t) (code "&" ∷ text c ++ rest) at first in
       let next = at + length (text t) in
-      let second = drop-next s (text c ++ rest) '&' next left in
-      let ih₁ = complete t f at ('&' ∷ text c ++ rest) (omega arith) first refl in
+      let second = drop-next s (text c ++ rest) (code "&") next left in
+      let ih₁ = complete t f at (code "&" ∷ text c ++ rest) (omega arith) first refl in
       let ih₂ = complete c f (next + 1) rest (omega arith) second q in
       rw (ih₁, isAt-drop, left, ih₂)
       (set-path (setOf-and n (holdsAt names t) (holdsAt names c)) (omega arith))
   complete (negated t) (suc f) at rest h e q =
-      let ih = complete t f (at + 1) rest (omega arith) (drop-next s (text t ++ rest) '!' at e) q in
-      rw (isAt-drop s at '!', e, ih) (set-path (setOf-others n (holdsAt names t)) (omega arith))
+      let ih = complete t f (at + 1) rest (omega arith) (drop-next s (text t ++ rest) (code "!") at e) q in
+      rw (isAt-drop s at (code "!"), e, ih) (set-path (setOf-others n (holdsAt names t)) (omega arith))
   complete (named w p) (suc f) at rest h e q =
       let other : (b : ℕ) → isLetter b ≡ false → isAt s at b ≡ false =
       λ b i. isAt-drop s at b ∙ rw e (no-sign w rest b p i) in
       rw (
-        other '!' refl,
-        other opening refl,
-        other '0' refl,
-        other '1' refl,
+        other (code "!") refl,
+        other (code "(") refl,
+        other (code "0") refl,
+        other (code "1") refl,
         e,
         letterRun-append w rest (p .letters) (no-letter rest q),
       )
@@ -144,9 +144,9 @@ module _ (names : List Name) (n : ℕ) (s : List ℕ) where
   complete never (suc f) at rest h e q = simp (isAt-drop, e) (set-path (sym (setOf-false n)) refl)
   complete always (suc f) at rest h e q = simp (isAt-drop, e)
   complete (grouped c) (suc f) at rest h e q =
-      let len = length-append (text c) (closing ∷ []) in
-      let inner = drop-next s (text c ++ closing ∷ [] ++ rest) opening at e
-      ∙ append-assoc (text c) (closing ∷ []) rest in
-      let left = drop-past s (text c) (closing ∷ rest) (at + 1) inner in
-      let ih = complete c f (at + 1) (closing ∷ rest) (omega arith) inner refl in
+      let len = length-append (text c) (code ")" ∷ []) in
+      let inner = drop-next s (text c ++ code ")" ∷ [] ++ rest) (code "(") at e
+      ∙ append-assoc (text c) (code ")" ∷ []) rest in
+      let left = drop-past s (text c) (code ")" ∷ rest) (at + 1) inner in
+      let ih = complete c f (at + 1) (code ")" ∷ rest) (omega arith) inner refl in
       simp (isAt-drop, e, ih, left) (set-path refl (omega arith))

@@ -1,6 +1,7 @@
 -- The running counters find exactly the bytes with over 8 open parentheses at some place; and their
 -- turn at byte i, `-next` where it goes on, `-stop` where it settles the answer, `-end` past the
 -- last. Assumes nothing.
+use Prim.Native.Char.{code}
 use Prim.Native.Nat.{ℕ, zero, suc, _+_, _≤_, _<_}
 use native.Mathlib.Numerals.{add-one}
 use native.Mathlib.Omega.{arith}
@@ -12,7 +13,6 @@ use lib.Dec.{eqb, ltb}
 use lib.ListN.{length, getD, take, drop, drop-of-length-le}
 use lib.Seq.{drop-cons}
 use Rattle.text.specs.Lines.{count}
-use Rattle.conditions.specs.Bytes.{opening, closing}
 use Rattle.conditions.specs.inner.Judge.{one, deep}
 use Rattle.conditions.specs.Depth.{Shallow, TooDeep}
 
@@ -27,10 +27,10 @@ count-cons b x xs = go (eqb x b)
 -- Over 8 are open before place i of the bytes, or at most 8 are, after o opening and c closing
 -- ones.
 abbrev Over : ℕ → ℕ → List ℕ → ℕ → Type 0
-Over o c xs i = c + count closing (take i xs) + 8 < o + count opening (take i xs)
+Over o c xs i = c + count (code ")") (take i xs) + 8 < o + count (code "(") (take i xs)
 
 abbrev Within : ℕ → ℕ → List ℕ → ℕ → Type 0
-Within o c xs i = o + count opening (take i xs) ≤ c + count closing (take i xs) + 8
+Within o c xs i = o + count (code "(") (take i xs) ≤ c + count (code ")") (take i xs) + 8
 
 deep-over : (xs : List ℕ) (o c : ℕ) → deep o c xs ≡ true → (i : ℕ) × Over o c xs i
 unfolding deep count
@@ -38,20 +38,20 @@ deep-over [] o c e = absurd (true≢false (sym e))
 deep-over (x ∷ xs) o c e = go (ltb (c' + 8) o') refl e (deep-over xs o' c')
   where
     o' : ℕ
-    o' = o + one x opening
+    o' = o + one x (code "(")
 
     c' : ℕ
-    c' = c + one x closing
+    c' = c + one x (code ")")
 
     go : (t : Bool) → ltb (c' + 8) o' ≡ t → (t || deep o' c' xs) ≡ true
         → (deep o' c' xs ≡ true → (i : ℕ) × Over o' c' xs i) → (i : ℕ) × Over o c (x ∷ xs) i
     go true p q ih =
         let here = ltb-true (c' + 8) o' p in
-        (1, omega (arith, count-cons opening x [], count-cons closing x []))
+        (1, omega (arith, count-cons (code "(") x [], count-cons (code ")") x []))
     go false p q ih =
         let later = ih q in
         let ys = take (later .0) xs in
-        (suc (later .0), omega (arith, later .1, count-cons opening x ys, count-cons closing x ys))
+        (suc (later .0), omega (arith, later .1, count-cons (code "(") x ys, count-cons (code ")") x ys))
 
 deep-within : (xs : List ℕ) (o c : ℕ) → deep o c xs ≡ false → o ≤ c + 8 → (i : ℕ)
     → Within o c xs i
@@ -62,10 +62,10 @@ deep-within (x ∷ xs) o c e h zero = omega arith
 deep-within (x ∷ xs) o c e h (suc i) = go (ltb (c' + 8) o') refl e (deep-within xs o' c')
   where
     o' : ℕ
-    o' = o + one x opening
+    o' = o + one x (code "(")
 
     c' : ℕ
-    c' = c + one x closing
+    c' = c + one x (code ")")
 
     go : (t : Bool) → ltb (c' + 8) o' ≡ t → (t || deep o' c' xs) ≡ false
         → (deep o' c' xs ≡ false → o' ≤ c' + 8 → (i : ℕ) → Within o' c' xs i)
@@ -74,7 +74,7 @@ deep-within (x ∷ xs) o c e h (suc i) = go (ltb (c' + 8) o') refl e (deep-withi
     go false p q ih =
         let later = ih q (ltb-false (c' + 8) o' p) i in
         let ys = take i xs in
-        omega (arith, count-cons opening x ys, count-cons closing x ys)
+        omega (arith, count-cons (code "(") x ys, count-cons (code ")") x ys)
 
 module _ (xs : List ℕ) where
   pub deep-true : deep 0 0 xs ≡ true → TooDeep xs
@@ -101,8 +101,8 @@ module _ (xs : List ℕ) where
       go false e = absurd (not-both h (deep-false e))
 
 -- The loop's turn.
-module _ (s : List ℕ) (o c i : ℕ) {x y : ℕ} (h : i < length s) (p : x ≡ one (getD s i 0) opening)
-    (q : y ≡ one (getD s i 0) closing) where
+module _ (s : List ℕ) (o c i : ℕ) {x y : ℕ} (h : i < length s) (p : x ≡ one (getD s i 0) (code "("))
+    (q : y ≡ one (getD s i 0) (code ")")) where
   pub deep-stop : c + y + 8 < o + x → deep o c (drop i s) ≡ true
   unfolding deep
   deep-stop g = rw (drop-cons s i 0 h, ← p, ← q, lt-ltb (c + y + 8) (o + x) g)

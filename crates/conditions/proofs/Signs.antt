@@ -1,4 +1,5 @@
 -- Which bytes a condition is made of: no other byte stands in it. Assumes nothing.
+use Prim.Native.Char.{code}
 use Prim.Native.Nat.{ℕ}
 use mathlib.Core.Bool.{Bool, true, false, _||_}
 use mathlib.Core.List.{List, [], _∷_}
@@ -10,14 +11,13 @@ use Rattle.table.specs.Name.{isLetter}
 use Rattle.table.specs.declared.Name.{Name}
 use Rattle.text.specs.Lines.{count}
 use Rattle.text.proofs.Joins.{passing-free}
-use Rattle.conditions.specs.Bytes.{'|', '&', '!', '0', '1', opening, closing}
 use Rattle.conditions.specs.Condition.{Kind, Condition, oneTerm, or, oneFactor, and, negated}
 use Rattle.conditions.specs.Condition.{named, never, always, grouped, text}
 use Rattle.conditions.specs.Judge.{IsCondition}
 
 abbrev pub inCondition : ℕ → Bool
 inCondition x =
-    isLetter x || some (eqb x) ('|' ∷ '&' ∷ '!' ∷ '0' ∷ '1' ∷ opening ∷ closing ∷ [])
+    isLetter x || some (eqb x) (code "|" ∷ code "&" ∷ code "!" ∷ code "0" ∷ code "1" ∷ code "(" ∷ code ")" ∷ [])
 
 letters-in : (w : List ℕ) → every isLetter w ≡ true → every inCondition w ≡ true
 unfolding every
@@ -30,15 +30,15 @@ text-in : {k : Kind} (c : Condition k) → every inCondition (text c) ≡ true
 unfolding text every some
 text-in (oneTerm t) = text-in t
 text-in (or t c) =
-    every-append inCondition (text t) ('|' ∷ text c) ∙ rw (text-in t) (text-in c)
+    every-append inCondition (text t) (code "|" ∷ text c) ∙ rw (text-in t) (text-in c)
 text-in (oneFactor f) = text-in f
 text-in (and f t) =
-    every-append inCondition (text f) ('&' ∷ text t) ∙ rw (text-in f) (text-in t)
+    every-append inCondition (text f) (code "&" ∷ text t) ∙ rw (text-in f) (text-in t)
 text-in (negated f) = text-in f
 text-in (named w h) = letters-in w (h .letters)
 text-in never = refl
 text-in always = refl
-text-in (grouped c) = every-append inCondition (text c) (closing ∷ []) ∙ rw (text-in c)
+text-in (grouped c) = every-append inCondition (text c) (code ")" ∷ []) ∙ rw (text-in c)
 
 pub condition-free : (names : List Name) (n b : ℕ) → inCondition b ≡ false → {xs : List ℕ}
     {v : ℕ} → IsCondition names n xs v → count b xs ≡ 0

@@ -1,5 +1,6 @@
 -- What is read is written by a condition with that meaning: one law for each part of the reading.
 -- Assumes nothing.
+use Prim.Native.Char.{code}
 use Prim.Native.Nat.{ℕ, zero, suc, _+_, _≤_, _<_}
 use native.Mathlib.Omega.{arith}
 use borrow.Author.Tests.{ltb-false, eqb-false}
@@ -14,7 +15,6 @@ use Rattle.letters.specs.Letter.{setOf}
 use Rattle.letters.proofs.Sets.{setOf-or, setOf-and, setOf-others, setOf-false}
 use Rattle.table.specs.Name.{letterRun}
 use Rattle.table.specs.declared.Name.{Name}
-use Rattle.conditions.specs.Bytes.{'|', '&', '!', '0', '1', opening, closing}
 use Rattle.conditions.specs.Condition.{Kind, choice, term, factor, Condition, text, nameOf}
 use Rattle.conditions.specs.Condition.{place, holdsAt, unknown}
 use Rattle.conditions.specs.Condition.Condition.{oneTerm, or, oneFactor, and, negated, named}
@@ -69,7 +69,7 @@ module _ (names : List Name) (n : ℕ) (s : List ℕ) where
     flag = h .flag;
   }
 
-  more-terms : (at v : ℕ) (u : Bool) (next : ℕ) (q : Read) → isAt s next '|' ≡ true
+  more-terms : (at v : ℕ) (u : Bool) (next : ℕ) (q : Read) → isAt s next (code "|") ≡ true
       → Wrote names n s term at v u next → Sound choice (next + 1) q
       → Sound choice at (joined bitOr v u q)
   unfolding text holdsAt unknown
@@ -78,7 +78,7 @@ module _ (names : List Name) (n : ℕ) (s : List ℕ) where
     tree = or (h .tree) (g .tree);
     starts = omega (arith, h .starts, g .starts);
     ends = g .ends;
-    bytes = rw append-assoc (h .bytes ∙ rw (isAt-cons s next '|' e, g .bytes));
+    bytes = rw append-assoc (h .bytes ∙ rw (isAt-cons s next (code "|") e, g .bytes));
     letters = sym (setOf-or n (holdsAt names (h .tree)) (holdsAt names (g .tree)))
         ∙ rw (h .letters, g .letters);
     flag = rw (h .flag, g .flag);
@@ -96,7 +96,7 @@ module _ (names : List Name) (n : ℕ) (s : List ℕ) where
     flag = h .flag;
   }
 
-  more-factors : (at v : ℕ) (u : Bool) (next : ℕ) (q : Read) → isAt s next '&' ≡ true
+  more-factors : (at v : ℕ) (u : Bool) (next : ℕ) (q : Read) → isAt s next (code "&") ≡ true
       → Wrote names n s factor at v u next → Sound term (next + 1) q
       → Sound term at (joined bitAnd v u q)
   unfolding text holdsAt unknown
@@ -105,13 +105,13 @@ module _ (names : List Name) (n : ℕ) (s : List ℕ) where
     tree = and (h .tree) (g .tree);
     starts = omega (arith, h .starts, g .starts);
     ends = g .ends;
-    bytes = rw append-assoc (h .bytes ∙ rw (isAt-cons s next '&' e, g .bytes));
+    bytes = rw append-assoc (h .bytes ∙ rw (isAt-cons s next (code "&") e, g .bytes));
     letters = sym (setOf-and n (holdsAt names (h .tree)) (holdsAt names (g .tree)))
         ∙ rw (h .letters, g .letters);
     flag = rw (h .flag, g .flag);
   }
 
-  negated-sound : (at : ℕ) (r : Read) → isAt s at '!' ≡ true → Sound factor (at + 1) r
+  negated-sound : (at : ℕ) (r : Read) → isAt s at (code "!") ≡ true → Sound factor (at + 1) r
       → Sound factor at (others n r)
   unfolding text holdsAt unknown
   negated-sound at Nothing e h = tt
@@ -119,26 +119,26 @@ module _ (names : List Name) (n : ℕ) (s : List ℕ) where
     tree = negated (h .tree);
     starts = omega (arith, h .starts);
     ends = h .ends;
-    bytes = isAt-cons s at '!' e ∙ rw (h .bytes);
+    bytes = isAt-cons s at (code "!") e ∙ rw (h .bytes);
     letters = sym (setOf-others n (holdsAt names (h .tree))) ∙ rw (h .letters);
     flag = h .flag;
   }
 
-  grouped-sound : (at : ℕ) (r : Read) → isAt s at opening ≡ true → Sound choice (at + 1) r
+  grouped-sound : (at : ℕ) (r : Read) → isAt s at (code "(") ≡ true → Sound choice (at + 1) r
       → Sound factor at (closed s r)
   unfolding text holdsAt unknown
   grouped-sound at Nothing e h = tt
-  grouped-sound at (Set v u next) e h = go (isAt s next closing) refl
+  grouped-sound at (Set v u next) e h = go (isAt s next (code ")")) refl
     where
-      go : (b : Bool) → isAt s next closing ≡ b
+      go : (b : Bool) → isAt s next (code ")") ≡ b
           → Sound factor at (cond b (Set v u (next + 1)) Nothing)
       go false q = tt
       go true q = record {
         tree = grouped (h .tree);
         starts = omega (arith, h .starts);
-        ends = omega (arith, isAt-lt s next closing q);
-        bytes = isAt-cons s at opening e
-            ∙ rw (h .bytes, append-assoc, isAt-cons s next closing q);
+        ends = omega (arith, isAt-lt s next (code ")") q);
+        bytes = isAt-cons s at (code "(") e
+            ∙ rw (h .bytes, append-assoc, isAt-cons s next (code ")") q);
         letters = h .letters;
         flag = h .flag;
       }
@@ -177,35 +177,35 @@ module _ (names : List Name) (n : ℕ) (s : List ℕ) where
 
   digit-sound : (at : ℕ) → Sound factor at (digitAt names n s at)
   unfolding digitAt text holdsAt unknown
-  digit-sound at = go (isAt s at '0') (isAt s at '1') refl refl
+  digit-sound at = go (isAt s at (code "0")) (isAt s at (code "1")) refl refl
     where
-      go : (a b : Bool) → isAt s at '0' ≡ a → isAt s at '1' ≡ b → Sound factor at
+      go : (a b : Bool) → isAt s at (code "0") ≡ a → isAt s at (code "1") ≡ b → Sound factor at
           (cond a (Set 0 false (at + 1)) (cond b (Set (setOf n (λ _. true)) false (at + 1))
           (nameAt names n s at (letterRun (drop at s)))))
       go true b p q = record {
         tree = never;
         starts = omega arith;
-        ends = omega (arith, isAt-lt s at '0' p);
-        bytes = isAt-cons s at '0' p;
+        ends = omega (arith, isAt-lt s at (code "0") p);
+        bytes = isAt-cons s at (code "0") p;
         letters = setOf-false n;
         flag = refl;
       }
       go false true p q = record {
         tree = always;
         starts = omega arith;
-        ends = omega (arith, isAt-lt s at '1' q);
-        bytes = isAt-cons s at '1' q;
+        ends = omega (arith, isAt-lt s at (code "1") q);
+        bytes = isAt-cons s at (code "1") q;
         letters = refl;
         flag = refl;
       }
       go false false p q = name-sound at
 
   factor-sound : (at : ℕ) (r q : Read) → Sound factor (at + 1) r → Sound choice (at + 1) q
-      → Sound factor at (cond (isAt s at '!') (others n r)
-      (cond (isAt s at opening) (closed s q) (digitAt names n s at)))
-  factor-sound at r q h g = go (isAt s at '!') (isAt s at opening) refl refl
+      → Sound factor at (cond (isAt s at (code "!")) (others n r)
+      (cond (isAt s at (code "(")) (closed s q) (digitAt names n s at)))
+  factor-sound at r q h g = go (isAt s at (code "!")) (isAt s at (code "(")) refl refl
     where
-      go : (a b : Bool) → isAt s at '!' ≡ a → isAt s at opening ≡ b
+      go : (a b : Bool) → isAt s at (code "!") ≡ a → isAt s at (code "(") ≡ b
           → Sound factor at (cond a (others n r) (cond b (closed s q) (digitAt names n s at)))
       go true b i j = negated-sound at r i h
       go false true i j = grouped-sound at q j g
@@ -215,10 +215,10 @@ module _ (names : List Name) (n : ℕ) (s : List ℕ) where
   unfolding reads
   sound zero at k = tt
   sound (suc f) at choice =
-      followed-sound '|' bitOr at (reads names n s f term at) (reads names n s f choice)
+      followed-sound (code "|") bitOr at (reads names n s f term at) (reads names n s f choice)
       (one-term at) (more-terms at) (sound f at term) (λ m. sound f m choice)
   sound (suc f) at term =
-      followed-sound '&' bitAnd at (reads names n s f factor at) (reads names n s f term)
+      followed-sound (code "&") bitAnd at (reads names n s f factor at) (reads names n s f term)
       (one-factor at) (more-factors at) (sound f at factor) (λ m. sound f m term)
   sound (suc f) at factor =
       factor-sound at (reads names n s f factor (at + 1)) (reads names n s f choice (at + 1))

@@ -1,5 +1,6 @@
 -- One step of the reading, for the cycle of `choice`, `term` and `factor`: from what the calls gave
 -- to what is read at a place. Assumes nothing.
+use Prim.Native.Char.{code}
 use Prim.Native.Nat.{ℕ, zero, suc, _+_, _-_, _*_, _≤_, _<_}
 use native.Mathlib.Omega.{arith}
 use mathlib.Core.Bool.{Bool, true, false}
@@ -8,11 +9,9 @@ use mathlib.Core.Path.{_≡_, refl, sym, subst}
 use lib.Bits.{bitAnd, bitOr}
 use lib.ListN.{length}
 use Rattle.table.specs.declared.Name.{Name}
-use Rattle.conditions.specs.Bytes.{'|', '&', '!', opening}
 use Rattle.conditions.specs.Condition.{Kind, choice, term, factor}
 use Rattle.conditions.specs.inner.Reading.{isAt, joined, others, closed, followed, digitAt}
-use Rattle.conditions.specs.inner.Reading.{rank}
-use Rattle.conditions.specs.inner.Reading.{reads, Meant, wholly, conditionOf}
+use Rattle.conditions.specs.inner.Reading.{rank, reads, Meant, wholly, conditionOf}
 use Rattle.conditions.specs.declared.Read.{Read}
 use Rattle.conditions.specs.declared.Read.the-variants.{Set, Nothing}
 use Rattle.conditions.proofs.Bytes.{isAt-lt}
@@ -43,11 +42,11 @@ pub record Joins (k part : Kind) (b : ℕ) (g : ℕ → ℕ → ℕ) : Type 0 wh
   reading : (names : List Name) (n : ℕ) (s : List ℕ) (f at : ℕ) → reads names n s (suc f) k at
       ≡ followed s b (reads names n s f k) g (reads names n s f part at)
 
-pub choices : Joins choice term '|' bitOr
+pub choices : Joins choice term (code "|") bitOr
 unfolding reads
 choices = record { ranks = refl; reading = λ names n s f at. refl }
 
-pub terms : Joins term factor '&' bitAnd
+pub terms : Joins term factor (code "&") bitAnd
 unfolding reads
 terms = record { ranks = refl; reading = λ names n s f at. refl }
 
@@ -76,21 +75,21 @@ module _ {names : List Name} {n : ℕ} {s : List ℕ} {k part : Kind} {b : ℕ} 
       step (λ f p. rw (once f p, e, t, ← more .reading f (omega arith), i))
 
 module _ {names : List Name} {n : ℕ} {s : List ℕ} {at : ℕ} {q : Read} where
-  pub factor-negated : {r : Read} → isAt s at '!' ≡ true → Meant names n s factor (at + 1) r
+  pub factor-negated : {r : Read} → isAt s at (code "!") ≡ true → Meant names n s factor (at + 1) r
       → q ≡ others n r → Meant names n s factor at q
   unfolding reads
   factor-negated t h e =
-      let inside = isAt-lt s at '!' t in
+      let inside = isAt-lt s at (code "!") t in
       step (λ f p. rw (t, ← h .reading f (omega arith), e))
 
-  pub factor-grouped : {r : Read} → isAt s at '!' ≡ false → isAt s at opening ≡ true
+  pub factor-grouped : {r : Read} → isAt s at (code "!") ≡ false → isAt s at (code "(") ≡ true
       → Meant names n s choice (at + 1) r → q ≡ closed s r → Meant names n s factor at q
   unfolding reads
   factor-grouped u t h e =
-      let inside = isAt-lt s at opening t in
+      let inside = isAt-lt s at (code "(") t in
       step (λ f p. rw (u, t, ← h .reading f (omega arith), e))
 
-  pub factor-digit : isAt s at '!' ≡ false → isAt s at opening ≡ false → q ≡ digitAt names n s at
+  pub factor-digit : isAt s at (code "!") ≡ false → isAt s at (code "(") ≡ false → q ≡ digitAt names n s at
       → Meant names n s factor at q
   unfolding reads
   factor-digit u t e = step (λ f p. rw (u, t, e))

@@ -1,4 +1,5 @@
 -- Conditions as trees: the bytes of each, and what each says of a letter.
+use Prim.Native.Char.{code}
 use Prim.Native.Nat.{ℕ, suc, _≤_}
 use mathlib.Core.Bool.{Bool, true, false, not, _&&_, _||_, cond}
 use mathlib.Core.List.{List, [], _∷_, _++_}
@@ -9,7 +10,6 @@ use Rattle.letters.specs.Letter.{signalOn, setOf}
 use Rattle.letters.specs.Lists.{every}
 use Rattle.table.specs.Name.{isLetter, sameName}
 use Rattle.table.specs.declared.Name.{Name}
-use Rattle.conditions.specs.Bytes.{'|', '&', '!', '0', '1', opening, closing}
 
 -- "A name has 1 to 8 letters a-z."
 pub record IsName (w : List ℕ) : Type 0 where
@@ -36,14 +36,14 @@ pub data Condition : Kind → Type 0 where
 -- The bytes of a condition.
 unfoldable pub text : {k : Kind} → Condition k → List ℕ
 text (oneTerm t) = text t
-text (or t c) = text t ++ '|' ∷ text c
+text (or t c) = text t ++ code "|" ∷ text c
 text (oneFactor f) = text f
-text (and f t) = text f ++ '&' ∷ text t
-text (negated f) = '!' ∷ text f
+text (and f t) = text f ++ code "&" ∷ text t
+text (negated f) = code "!" ∷ text f
 text (named w _) = w
-text never = '0' ∷ []
-text always = '1' ∷ []
-text (grouped c) = opening ∷ text c ++ closing ∷ []
+text never = code "0" ∷ []
+text always = code "1" ∷ []
+text (grouped c) = code "(" ∷ text c ++ code ")" ∷ []
 
 -- A name as a table value keeps it: its letters, then zeros, in eight places.
 unfoldable pub nameOf : List ℕ → Name

@@ -1,6 +1,5 @@
 -- Conditions. `Bytes`, `Condition` (the grammar), `Depth`, `Judge`: what is right. That the code's
 -- answer is, is promised.
-pub mod Bytes
 pub mod Condition
 pub mod Depth
 pub mod Judge

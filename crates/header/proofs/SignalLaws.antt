@@ -16,7 +16,7 @@ use Rattle.letters.proofs.Lists.{every-append, sameBytes-refl}
 use Rattle.table.specs.Limits.{mostSignals}
 use Rattle.table.specs.Name.{allDistinct}
 use Rattle.table.specs.declared.Name.{Name}
-use Rattle.text.specs.Lines.{count}
+use Rattle.text.specs.Lines.{count, space}
 use Rattle.text.specs.inner.Cut.{split, front, after}
 use Rattle.text.proofs.Splits.{front-whole, split-front, split-cons, front-after}
 use Rattle.conditions.specs.Condition.{nameOf}
@@ -131,7 +131,7 @@ kept-added ws w = go (decLt (length ws) mostSignals)
 -- What holds when the words `done` of the line have been read, up to the place `at`.
 pub record Naming (line : List ℕ) (done : List (List ℕ)) (names : List Name) (n at : ℕ) : Type 0
   where
-    pub words : wordsAfter 32 (drop 7 line) ≡ done ++ wordsAfter 32 (drop at line)
+    pub words : wordsAfter space (drop 7 line) ≡ done ++ wordsAfter space (drop at line)
     pub right : every nameShaped done ≡ true
     pub many : length done ≡ n
     pub kept : names ≡ keptOf done
@@ -148,29 +148,29 @@ number-word : (w : List ℕ) (ws : List (List ℕ)) → sameBytes w signalsWord 
 unfolding signalsNumber
 number-word w ws e = rw e
 
-pub answer-word : (l : List ℕ) → sameBytes (front 32 l) signalsWord ≡ false
-    → signalsAnswer (split 32 l) ≡ signalsRefused 6
-answer-word l e = answer-refused (split 32 l) 5
-    (rw (split-words 32 l) (number-word (front 32 l) _ e))
+pub answer-word : (l : List ℕ) → sameBytes (front space l) signalsWord ≡ false
+    → signalsAnswer (split space l) ≡ signalsRefused 6
+answer-word l e = answer-refused (split space l) 5
+    (rw (split-words space l) (number-word (front space l) _ e))
 
-module _ (l : List ℕ) (first : front 32 l ≡ signalsWord) where
-  words-are : split 32 l ≡ signalsWord ∷ wordsAfter 32 (drop 7 l)
-  words-are = split-words 32 l ∙ rw first
+module _ (l : List ℕ) (first : front space l ≡ signalsWord) where
+  words-are : split space l ≡ signalsWord ∷ wordsAfter space (drop 7 l)
+  words-are = split-words space l ∙ rw first
 
   abbrev ws : List (List ℕ)
-  ws = wordsAfter 32 (drop 7 l)
+  ws = wordsAfter space (drop 7 l)
 
-  pub answer-name : every nameShaped ws ≡ false → signalsAnswer (split 32 l) ≡ signalsRefused 6
+  pub answer-name : every nameShaped ws ≡ false → signalsAnswer (split space l) ≡ signalsRefused 6
   unfolding signalsNumber
   answer-name e = rw words-are (answer-refused (signalsWord ∷ ws) 5
       (rw (e, and-false (sameBytes signalsWord signalsWord && leb 1 (length ws)))))
 
-  pub answer-none : ws ≡ [] → signalsAnswer (split 32 l) ≡ signalsRefused 6
+  pub answer-none : ws ≡ [] → signalsAnswer (split space l) ≡ signalsRefused 6
   unfolding signalsNumber sameBytes
   answer-none e = rw (words-are, e) (answer-refused (signalsWord ∷ []) 5 refl)
 
   module _ (right : every nameShaped ws ≡ true) where
-    pub answer-many : mostSignals < length ws → signalsAnswer (split 32 l) ≡ signalsRefused 7
+    pub answer-many : mostSignals < length ws → signalsAnswer (split space l) ≡ signalsRefused 7
     unfolding signalsNumber
     answer-many h =
         rw words-are (answer-refused (signalsWord ∷ ws) 6
@@ -184,7 +184,7 @@ module _ (l : List ℕ) (first : front 32 l ≡ signalsWord) where
 
     module _ (some : 1 ≤ length ws) (few : length ws ≤ mostSignals) where
       pub answer-twice : allDistinct (map nameOf ws) ≡ false
-          → signalsAnswer (split 32 l) ≡ signalsRefused 8
+          → signalsAnswer (split space l) ≡ signalsRefused 8
       unfolding signalsNumber
       answer-twice e =
           rw words-are (answer-refused (signalsWord ∷ ws) 7
@@ -198,7 +198,7 @@ module _ (l : List ℕ) (first : front 32 l ≡ signalsWord) where
           )))
 
       pub answer-good : allDistinct (map nameOf ws) ≡ true
-          → signalsAnswer (split 32 l)
+          → signalsAnswer (split space l)
           ≡ record { number = 0; count = length ws; names = namesFrom ws }
       unfolding signalsAnswer signalsNumber
       answer-good e =
@@ -220,26 +220,26 @@ naming-starts line = record { words = refl; right = refl; many = refl; kept = re
 module _ (line : List ℕ) (done : List (List ℕ)) (names : List Name) (n at : ℕ)
     (p : Naming line done names n at) where
   -- a word that is no name
-  pub naming-stops : at < length line → nameShaped (front 32 (drop (at + 1) line)) ≡ false
-      → every nameShaped (wordsAfter 32 (drop 7 line)) ≡ false
+  pub naming-stops : at < length line → nameShaped (front space (drop (at + 1) line)) ≡ false
+      → every nameShaped (wordsAfter space (drop 7 line)) ≡ false
   unfolding every
   naming-stops h e =
-      rw (p .words, words-next 32 line at h, every-append nameShaped done _, e)
+      rw (p .words, words-next space line at h, every-append nameShaped done _, e)
       (and-false (every nameShaped done))
 
   -- all words are read
-  pub naming-ends : length line ≤ at → wordsAfter 32 (drop 7 line) ≡ done
-  naming-ends h = p .words ∙ rw (words-end 32 line at h) (append-nil done)
+  pub naming-ends : length line ≤ at → wordsAfter space (drop 7 line) ≡ done
+  naming-ends h = p .words ∙ rw (words-end space line at h) (append-nil done)
 
   -- one name more
-  pub naming-next : at < length line → let word = front 32 (drop (at + 1) line) in
+  pub naming-next : at < length line → let word = front space (drop (at + 1) line) in
       nameShaped word ≡ true → Naming line (done ++ (word ∷ [])) (nameAdded names n (nameOf word))
       (n + 1) (at + 1 + length word)
   unfolding every
   naming-next h e =
-      let word = front 32 (drop (at + 1) line) in
+      let word = front space (drop (at + 1) line) in
       record {
-        words = p .words ∙ rw (words-next 32 line at h) (sym (append-assoc done (word ∷ []) _));
+        words = p .words ∙ rw (words-next space line at h) (sym (append-assoc done (word ∷ []) _));
         right = rw (every-append nameShaped done (word ∷ []), p .right, e);
         many = length-append done (word ∷ []) ∙ omega (arith, p .many);
         kept = ap₂ (λ (l : List Name) (k : ℕ). nameAdded l k (nameOf word)) (p .kept)
@@ -251,22 +251,22 @@ length-none [] e = refl
 length-none (x ∷ xs) e = absurd (omega arith)
 
 -- When all words are read: each answer of the line.
-module _ (line : List ℕ) (first : front 32 line ≡ signalsWord) (done : List (List ℕ))
+module _ (line : List ℕ) (first : front space line ≡ signalsWord) (done : List (List ℕ))
     (names : List Name) (n at : ℕ)
     (p : Naming line done names n at) (end : length line ≤ at) where
-  all : wordsAfter 32 (drop 7 line) ≡ done
+  all : wordsAfter space (drop 7 line) ≡ done
   all = naming-ends line done names n at p end
 
-  all-right : every nameShaped (wordsAfter 32 (drop 7 line)) ≡ true
+  all-right : every nameShaped (wordsAfter space (drop 7 line)) ≡ true
   all-right = rw all (p .right)
 
-  all-many : length (wordsAfter 32 (drop 7 line)) ≡ n
+  all-many : length (wordsAfter space (drop 7 line)) ≡ n
   all-many = rw all (p .many)
 
-  pub ends-none : n ≡ 0 → signalsAnswer (split 32 line) ≡ signalsRefused 6
+  pub ends-none : n ≡ 0 → signalsAnswer (split space line) ≡ signalsRefused 6
   ends-none e = answer-none line first (all ∙ length-none done (p .many ∙ e))
 
-  pub ends-many : mostSignals < n → signalsAnswer (split 32 line) ≡ signalsRefused 7
+  pub ends-many : mostSignals < n → signalsAnswer (split space line) ≡ signalsRefused 7
   ends-many h = answer-many line first all-right (rw all-many h)
 
   module _ (some : n ≡ 0 → ⊥) (few : n ≤ mostSignals) where
@@ -276,18 +276,18 @@ module _ (line : List ℕ) (first : front 32 line ≡ signalsWord) (done : List 
     kept-names : take n names ≡ map nameOf done
     kept-names = rw kept-all (take-at (map nameOf done) _ n (length-map done nameOf ∙ p .many))
 
-    low : 1 ≤ length (wordsAfter 32 (drop 7 line))
+    low : 1 ≤ length (wordsAfter space (drop 7 line))
     low = rw all-many (omega arith)
 
-    high : length (wordsAfter 32 (drop 7 line)) ≤ mostSignals
+    high : length (wordsAfter space (drop 7 line)) ≤ mostSignals
     high = rw all-many few
 
     pub ends-twice : allDistinct (take n names) ≡ false
-        → signalsAnswer (split 32 line) ≡ signalsRefused 8
+        → signalsAnswer (split space line) ≡ signalsRefused 8
     ends-twice e = answer-twice line first all-right low high (rw (all, ← kept-names) e)
 
     pub ends-good : allDistinct (take n names) ≡ true
-        → signalsAnswer (split 32 line) ≡ record { number = 0; count = n; names = names }
+        → signalsAnswer (split space line) ≡ record { number = 0; count = n; names = names }
     ends-good e =
         answer-good line first all-right low high (rw (all, ← kept-names) e)
         ∙ ap₂ (λ (k : ℕ) (l : List Name). record { number = 0; count = k; names = l }) all-many

@@ -4,6 +4,7 @@ use table::MOST_SIGNALS;
 use table::NAME_LETTERS;
 use table::Name;
 ghost use mathlib.Core.Path.{_≡_};
+ghost use Rattle.text.specs.Lines.{space};
 ghost use Rattle.text.specs.inner.Cut.{split};
 ghost use Rattle.header.specs.Header.{isDigit16};
 ghost use Rattle.header.specs.inner.Header.{headerNumber, nameShaped, signalsRefused};
@@ -100,7 +101,7 @@ fn with_name(kept: Kept, n: usize, name: Name) -> Kept
 
 // The names of line 2; or 6, 7 or 8, in this order, each over the whole line.
 pub fn read_signals(line: &[u8]) -> Signals
-    ensures { λ r. ⌜ r ≡ signalsAnswer (split 32 (now (line .entry))) ⌝ }
+    ensures { λ r. ⌜ r ≡ signalsAnswer (split space (now (line .entry))) ⌝ }
 {
     let first = text::find(line, b' ');
     if first != 7 {

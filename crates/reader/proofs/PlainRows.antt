@@ -1,4 +1,5 @@
 -- The lines of rows with the bounds of given ones, and `0` for each condition. Assumes nothing.
+use Prim.Native.Char.{code}
 use Prim.Native.Nat.{ℕ, zero, suc, _+_, _*_, _≤_}
 use native.Mathlib.Omega.{arith}
 use mathlib.Core.Bool.{true}
@@ -16,7 +17,6 @@ use Rattle.table.proofs.Laws.{RowBounds, rowFits-bounds}
 use Rattle.text.specs.Bounds.{decimal}
 use Rattle.text.specs.Lines.{ended, joined, count, comma, All, none as all-none, and as all-and}
 use Rattle.text.proofs.Decimals.{decimal-length}
-use Rattle.conditions.specs.Bytes.{'0', opening, closing}
 use Rattle.conditions.specs.Condition.{oneTerm, oneFactor, never, text, holdsAt, unknown}
 use Rattle.rows.specs.Row.{ruleWord, FieldKind, condition, bound, fieldKinds, rowValues, IsField}
 use Rattle.rows.specs.Row.{AreFields, none as nothing, and as also, IsRow}
@@ -37,9 +37,9 @@ joined-length b k (piece ∷ next ∷ more) (all-and h short) =
 
 -- The condition `0`, which holds nowhere; a row of it with a row's bounds, and the line of that.
 abbrev zeroText : List ℕ
-zeroText = '0' ∷ []
+zeroText = code "0" ∷ []
 
-zero-shallow : (i : ℕ) → count opening (take i zeroText) ≤ count closing (take i zeroText) + 8
+zero-shallow : (i : ℕ) → count (code "(") (take i zeroText) ≤ count (code ")") (take i zeroText) + 8
 unfolding count
 zero-shallow zero = omega arith
 zero-shallow (suc zero) = omega arith

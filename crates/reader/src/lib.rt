@@ -10,6 +10,7 @@ use table::Outcome;
 use table::Refusal;
 use table::Row;
 use table::Table;
+use text::LF;
 ghost use mathlib.Core.Path.{_≡_};
 ghost use Prim.Native.Nat.{_+_, min};
 ghost use lib.ListN.{length};
@@ -19,8 +20,6 @@ ghost use Rattle.reader.specs.inner.File.{rowsAnswer, bodyAnswer, readAn
 ghost use Rattle.reader.specs.inner.Gathering.{gathered};
 
 pub const MOST_BYTES: usize = 4096;
-
-const LF: u8 = 10;
 
 // What a file is read as. The table of a refused file is empty: everything in it is 0.
 pub struct Reading {

@@ -3,6 +3,7 @@
 mod put;
 
 use table::Refusal;
+use text::LF;
 ghost use mathlib.Core.List.{[], _∷_, _++_};
 ghost use mathlib.Core.Path.{_≡_};
 ghost use lib.ListN.{length, take};
@@ -13,8 +14,6 @@ ghost use Rattle.report.specs.Buffer.{written};
 ghost use Rattle.report.specs.inner.Puts.{Puts, Countable};
 ghost use Rattle.report.specs.Report.{refusedLine, sizeLines, tickLine, tickLines};
 ghost use Rattle.report.specs.Report.{trapLines, reportBytes};
-
-const LF: u8 = 10;
 
 // How many rows the table has, and how many states are reached.
 pub struct Size {

@@ -15,7 +15,7 @@ use lib.Seq.{take-all, take-add, drop-drop, set-at, append-snoc}
 use Rattle.letters.specs.Lists.{every, sameBytes}
 use Rattle.letters.proofs.Lists.{and-left, and-right, sameBytes-true}
 use Rattle.table.specs.declared.Name.{Name}
-use Rattle.text.specs.Lines.{count}
+use Rattle.text.specs.Lines.{count, comma}
 use Rattle.text.specs.inner.Cut.{split, front}
 use Rattle.text.specs.inner.Bounds.{boundOf}
 use Rattle.text.specs.declared.Bound.{Bound}
@@ -94,15 +94,15 @@ split-first b xs = go (decLt 0 (count b xs))
 -- field k, which begins at `at`.
 module _ (names : List Name) (n : ℕ) (line : List ℕ) where
   abbrev fields : List Field
-  fields = fieldsOf names n 0 (split 44 (drop 5 line))
+  fields = fieldsOf names n 0 (split comma (drop 5 line))
 
   pub record Here (at k : ℕ) : Type 0 where
     -- The field begins within the line.
     pub within : at ≤ length line
     -- There are as many commas left as fields after this one.
-    pub commas : count 44 (drop at line) + k ≡ 11
+    pub commas : count comma (drop at line) + k ≡ 11
     -- The rest of the line holds the fields from this one on.
-    pub rest : drop k fields ≡ fieldsOf names n k (split 44 (drop at line))
+    pub rest : drop k fields ≡ fieldsOf names n k (split comma (drop at line))
 
   pub record Gathered (values : List ℕ) (at k : ℕ) : Type 0 where
     -- There are twelve fields.
@@ -114,7 +114,7 @@ module _ (names : List Name) (n : ℕ) (line : List ℕ) where
     -- What the fields before this one hold stands in the array, and zeros after it.
     pub stored : values ≡ map valueOf (take k fields) ++ replicate (12 - k) 0
 
-  pub gathered-none : 5 ≤ length line → count 44 (drop 5 line) ≡ 11
+  pub gathered-none : 5 ≤ length line → count comma (drop 5 line) ≡ 11
       → Gathered (replicate 12 0) 5 0
   gathered-none long commas = record {
     few = omega arith;
@@ -125,31 +125,31 @@ module _ (names : List Name) (n : ℕ) (line : List ℕ) where
 
   module _ (at k : ℕ) (here : Here at k) where
     abbrev field : Field
-    field = fieldOf names n k (front 44 (drop at line))
+    field = fieldOf names n k (front comma (drop at line))
 
     -- The field is the first of those that are left, and ends within the line.
     field-first : drop k fields ≡ field ∷ drop (k + 1) fields
     unfolding fieldsOf
     field-first =
-        let first = here .rest ∙ ap (fieldsOf names n k) (split-first 44 (drop at line)) in
+        let first = here .rest ∙ ap (fieldsOf names n k) (split-first comma (drop at line)) in
         first ∙ ap (_∷_ field) (sym (ap (drop 1) first) ∙ drop-drop 1 k fields)
 
-    pub here-front : at + length (front 44 (drop at line)) ≤ length line
-    here-front = omega (arith, here .within, length-drop at line, front-length 44 (drop at line))
+    pub here-front : at + length (front comma (drop at line)) ≤ length line
+    here-front = omega (arith, here .within, length-drop at line, front-length comma (drop at line))
 
     -- The next field begins after the comma.
-    here-next : k + 1 < 12 → Here (at + length (front 44 (drop at line)) + 1) (k + 1)
+    here-next : k + 1 < 12 → Here (at + length (front comma (drop at line)) + 1) (k + 1)
     unfolding fieldsOf
     here-next more =
         let xs = drop at line in
-        let some : 0 < count 44 xs = omega (arith, here .commas) in
-        let next : at + (length (front 44 xs) + 1) ≡ at + length (front 44 xs) + 1 = omega arith in
-        let after-it = after-drop 44 xs some ∙ drop-drop (length (front 44 xs) + 1) at line in
+        let some : 0 < count comma xs = omega (arith, here .commas) in
+        let next : at + (length (front comma xs) + 1) ≡ at + length (front comma xs) + 1 = omega arith in
+        let after-it = after-drop comma xs some ∙ drop-drop (length (front comma xs) + 1) at line in
         let there = rw next at after-it in
-        let first = here .rest ∙ ap (fieldsOf names n k) (split-cons 44 xs some) in
+        let first = here .rest ∙ ap (fieldsOf names n k) (split-cons comma xs some) in
         record {
-          within = omega (arith, here .within, length-drop at line, front-short 44 xs some);
-          commas = rw (← there) (omega (arith, here .commas, count-after 44 xs some));
+          within = omega (arith, here .within, length-drop at line, front-short comma xs some);
+          commas = rw (← there) (omega (arith, here .commas, count-after comma xs some));
           rest = rw (← there) (sym (drop-drop 1 k fields) ∙ ap (drop 1) first);
         }
 
@@ -171,7 +171,7 @@ module _ (names : List Name) (n : ℕ) (line : List ℕ) where
           (set-at (map valueOf (take k fields)) 0 (replicate (12 - (k + 1)) 0) v k size)
 
       pub gathered-next : (values : List ℕ) → k < 12 → Gathered values at k
-          → Gathered (set values k v) (at + length (front 44 (drop at line)) + 1) (k + 1)
+          → Gathered (set values k v) (at + length (front comma (drop at line)) + 1) (k + 1)
       gathered-next values h now = record {
         few = omega arith;
         here = here-next;
@@ -184,15 +184,15 @@ module _ (names : List Name) (n : ℕ) (line : List ℕ) where
         → valuesAnswer fields ≡ record { number = m; values = replicate 12 0 }
     unfolding valuesAnswer numberAmong
     gathered-fault m fault values now =
-        let some = ne-eqb m 0 (field-fault names n k (front 44 (drop at line)) m fault) in
+        let some = ne-eqb m 0 (field-fault names n k (front comma (drop at line)) m fault) in
         rw (now .clean, field-first, fault, some, some)
 
   -- The end.
-  pub gathered-all : (values : List ℕ) (at k : ℕ) → count 44 (drop 5 line) ≡ 11 → 12 ≤ k
+  pub gathered-all : (values : List ℕ) (at k : ℕ) → count comma (drop 5 line) ≡ 11 → 12 ≤ k
       → Gathered values at k → valuesAnswer fields ≡ record { number = 0; values = values }
   unfolding valuesAnswer numberAmong
   gathered-all values at k commas h now =
-      let size = fields-length names n (split 44 (drop 5 line)) 0 ∙ split-length 44 (drop 5 line) in
+      let size = fields-length names n (split comma (drop 5 line)) 0 ∙ split-length comma (drop 5 line) in
       let none : 12 - k ≡ 0 = omega arith in
       let clean = now .clean ∙ ap numberAmong (drop-of-length-le fields {i = k} (omega arith)) in
       let all = rw (take-all k fields (omega arith), none, append-nil) at (now .stored) in
@@ -224,9 +224,9 @@ module _ (line : List ℕ) (rule : sameBytes (take 5 line) ruleWord ≡ true) wh
   pub rule-length : 5 ≤ length line
   rule-length = omega (arith, length-take 5 line, ap length rule-take)
 
-  pub rule-commas : count 44 (drop 5 line) ≡ count 44 line
+  pub rule-commas : count comma (drop 5 line) ≡ count comma line
   unfolding count
-  rule-commas = sym (ap (count 44) (sym (take-append-drop 5 line)) ∙ rw rule-take)
+  rule-commas = sym (ap (count comma) (sym (take-append-drop 5 line)) ∙ rw rule-take)
 
 -- A row, by the number and the values that were gathered.
 module _ (fields : List Field) (values : Values) (read : values ≡ valuesAnswer fields) where

@@ -13,6 +13,7 @@ ghost use mathlib.Core.Bool.{true};
 ghost use Prim.Native.Nat.{_≤_, _%_};
 ghost use Rattle.letters.specs.Lists.{every};
 ghost use Rattle.letters.specs.Letter.{width};
+ghost use Rattle.text.specs.Lines.{comma};
 ghost use Rattle.text.specs.Lines.{count};
 ghost use Rattle.text.specs.inner.Cut.{front};
 ghost use Rattle.rows.specs.inner.Row.{rowFrom, boundAt, boundField, conditionField, fieldOf};
@@ -80,7 +81,7 @@ fn condition_field(s: &[u8], names: [Name; MOST_SIGNALS], signals: u8) -> Field
 // Field k, which the rest of the line begins with: it ends at the next comma.
 fn read_field(rest: &[u8], k: usize, names: [Name; MOST_SIGNALS], signals: u8) -> Field
     ensures { λ r. ⌜ r ≡ fieldOf (take signals names) (width signals) k
-        (front 44 (now (rest .entry))) ⌝ }
+        (front comma (now (rest .entry))) ⌝ }
 {
     let end = text::find(rest, b',');
     if is_bound(k) {
@@ -109,7 +110,7 @@ fn number_of(field: Field) -> u8
 
 // The fields after `rule `, each read on from its comma as the rest of the line.
 fn read_values(line: &[u8], names: [Name; MOST_SIGNALS], signals: u8) -> Values
-    requires { ⌜ (5 ≤ length (now line)) × (count 44 (drop 5 (now line)) ≡ 11) ⌝ }
+    requires { ⌜ (5 ≤ length (now line)) × (count comma (drop 5 (now line)) ≡ 11) ⌝ }
     ensures { λ r. ⌜ r ≡ valuesAnswer
         (lineFields (take signals names) (width signals) (now (line .entry))) ⌝ }
 {

@@ -1,10 +1,13 @@
 // Bytes of a line: where one stands, how many there are, what it begins with; and bounds.
-// specs/Split.antt and specs/Bounds.antt say what is right.
+// specs/inner/Cut.antt says what is computed, specs/Bounds.antt which bytes are bounds.
 ghost use mathlib.Core.Path.{_≡_};
 ghost use lib.ListN.{length};
 ghost use Rattle.text.specs.inner.Cut.{startsWith, front};
 ghost use Rattle.text.specs.Lines.{count};
 ghost use Rattle.text.specs.inner.Bounds.{oneDigit, twoDigits, boundOf};
+
+// The byte at the end of each line.
+pub const LF: u8 = 10;
 
 // What a field for a bound holds.
 pub enum Bound {

@@ -1,12 +1,12 @@
 -- `conditions::too_deep` meets its contract. The invariant: neither counter is over i, and the
 -- answer is that of the counters as they are on the bytes from i on. The measure: how many bytes
 -- are left. Assumes nothing.
+use Prim.Native.Char.{code}
 use Prim.Native.Nat.{_-_, _≤_}
 use borrow.Author.Needs.{needs}
 use native.Mathlib.Omega.{arith}
 use mathlib.Core.Path.{_≡_, sym, _∙_}
 use lib.ListN.{length, getD, drop}
-use Rattle.conditions.specs.Bytes.{opening, closing}
 use Rattle.conditions.specs.inner.Judge.{deep}
 use Rattle.conditions.proofs.Depth.{deep-next, deep-stop, deep-end, one-most}
 use Rattle.conditions.proofs.too_deep.Statement.{statement}
@@ -32,13 +32,13 @@ opened-most : (c : tie.After-tick Inv-loop μ-loop) → c .tick .result ≤ 1
 opened-most c =
     let head = c .before .before .before in
     let b = getD (head .before .before .args .s .now) (head .loop .i) 0 in
-    one-most b opening (c .tick .ensures)
+    one-most b (code "(") (c .tick .ensures)
 
 closed-most : (c : tie.After-tick2 Inv-loop μ-loop) → c .tick2 .result ≤ 1
 closed-most c =
     let head = c .before .before .before .before in
     let b = getD (head .before .before .args .s .now) (head .loop .i) 0 in
-    one-most b closing (c .tick2 .ensures)
+    one-most b (code ")") (c .tick2 .ensures)
 
 add-opened : tie.Need-add-opened Inv-loop μ-loop
 add-opened c = omega (arith, opened-most c)

@@ -1,11 +1,11 @@
 -- What the code says of a condition: `proofs/Judging.antt` shows that it is right, and the only
 -- right one.
+use Prim.Native.Char.{code}
 use Prim.Native.Nat.{ℕ, _+_}
 use mathlib.Core.Bool.{Bool, false, _||_, cond}
 use mathlib.Core.List.{List, [], _∷_}
 use lib.Dec.{eqb, ltb}
 use Rattle.table.specs.declared.Name.{Name}
-use Rattle.conditions.specs.Bytes.{opening, closing}
 use Rattle.conditions.specs.inner.Reading.{conditionOf}
 use Rattle.conditions.specs.declared.Read.{Read}
 use Rattle.conditions.specs.declared.Read.the-variants.{Set, Nothing}
@@ -19,7 +19,7 @@ one b x = cond (eqb b x) 1 0
 unfoldable pub deep : ℕ → ℕ → List ℕ → Bool
 deep o c [] = false
 deep o c (b ∷ xs) =
-    ltb (c + one b closing + 8) (o + one b opening) || deep (o + one b opening) (c + one b closing)
+    ltb (c + one b (code ")") + 8) (o + one b (code "(")) || deep (o + one b (code "(")) (c + one b (code ")"))
     xs
 
 abbrev pub verdictOf : Read → Judged

@@ -1,5 +1,6 @@
 -- Reading a condition at a place of the bytes s, as the code does. `Condition` and `Judge` say what
 -- is right. The fuel is enough where it is more than three for each byte left, and two more.
+use Prim.Native.Char.{code}
 use Prim.Native.Nat.{ℕ, zero, suc, _+_, _*_, _-_, _<_}
 use mathlib.Core.Bool.{Bool, true, false, not, _||_, cond}
 use mathlib.Core.List.{List}
@@ -7,7 +8,6 @@ use mathlib.Core.Path.{_≡_}
 use lib.Dec.{ltb, eqb}
 use lib.ListN.{getD, length, take, drop}
 use lib.Bits.{bitAnd, bitOr}
-use Rattle.conditions.specs.Bytes.{'|', '&', '!', '0', '1', opening, closing}
 use Rattle.conditions.specs.Condition.{Kind, choice, term, factor, nameOf, place}
 use Rattle.table.specs.Name.{letterRun}
 use Rattle.table.specs.declared.Name.{Name}
@@ -28,7 +28,7 @@ others n (Set v u next) = Set (setOf n (λ l. not (inSet v l))) u next
 others n Nothing = Nothing
 
 abbrev pub closed : List ℕ → Read → Read
-closed s (Set v u next) = cond (isAt s next closing) (Set v u (next + 1)) Nothing
+closed s (Set v u next) = cond (isAt s next (code ")")) (Set v u (next + 1)) Nothing
 closed s Nothing = Nothing
 
 -- more of the same kind follows where the byte b stands
@@ -55,18 +55,18 @@ module _ (names : List Name) (n : ℕ) (s : List ℕ) where
 
   unfoldable pub digitAt : ℕ → Read
   digitAt at =
-      cond (isAt s at '0') (Set 0 false (at + 1))
-      (cond (isAt s at '1') (Set (setOf n (λ _. true)) false (at + 1))
+      cond (isAt s at (code "0")) (Set 0 false (at + 1))
+      (cond (isAt s at (code "1")) (Set (setOf n (λ _. true)) false (at + 1))
       (nameAt at (letterRun (drop at s))))
 
   unfoldable pub reads : ℕ → Kind → ℕ → Read
   reads zero k at = Nothing
-  reads (suc f) choice at = followed s '|' (reads f choice) bitOr (reads f term at)
-  reads (suc f) term at = followed s '&' (reads f term) bitAnd (reads f factor at)
+  reads (suc f) choice at = followed s (code "|") (reads f choice) bitOr (reads f term at)
+  reads (suc f) term at = followed s (code "&") (reads f term) bitAnd (reads f factor at)
   reads (suc f) factor at =
       let negation = others n (reads f factor (at + 1)) in
       let group = closed s (reads f choice (at + 1)) in
-      cond (isAt s at '!') negation (cond (isAt s at opening) group (digitAt at))
+      cond (isAt s at (code "!")) negation (cond (isAt s at (code "(")) group (digitAt at))
 
 -- r is what is read at a place, with any fuel that is enough
 pub record Meant (names : List Name) (n : ℕ) (s : List ℕ) (k : Kind) (at : ℕ) (r : Read) : Type 0

@@ -22,6 +22,7 @@ use Rattle.text.proofs.Parts.{rest-whole, part-front}
 use Prim.Native.Nat.{ℕ, _≤_, _-_, _+_}
 use borrow.Author.Needs.{needs}
 use Rattle.header.proofs.read_signals.Statement.{statement}
+use Rattle.text.specs.Lines.{space}
 use Rattle.header.proofs.read_signals.Tie as tie
 
 abbrev Inv-loop : tie.InvT-loop
@@ -36,13 +37,13 @@ module _ (c : tie.Else2 Inv-loop μ-loop) where
   abbrev line : List ℕ
   line = c .before .before .before .before .before .before .args .line .now
 
-  first-long : length (front 32 line) ≡ 7
+  first-long : length (front space line) ≡ 7
   first-long = sym (c .before .before .before .before .find .ensures)
       ∙ c .before .before .before .if1 .left
 
-  first-is : front 32 line ≡ signalsWord
+  first-is : front space line ≡ signalsWord
   first-is =
-      front-take 32 line ∙ ap (λ (k : ℕ). take k line) first-long
+      front-take space line ∙ ap (λ (k : ℕ). take k line) first-long
       ∙ sameBytes-true (take 7 line) signalsWord
       (sym (c .before .starts-with .ensures) ∙ not-false _ (c .if2 .left))
 
@@ -55,17 +56,17 @@ module _ (c : tie.After-find2 Inv-loop μ-loop) where
   whole = line (c .before .before .before .before)
 
   abbrev word : List ℕ
-  word = front 32 (drop from whole)
+  word = front space (drop from whole)
 
   found : c .find2 .result ≡ length word
-  found = c .find2 .ensures ∙ ap (λ (l : List ℕ). length (front 32 l)) (rest-whole whole from)
+  found = c .find2 .ensures ∙ ap (λ (l : List ℕ). length (front space l)) (rest-whole whole from)
 
   fits : from + c .find2 .result ≤ length whole
   fits =
       omega (
         arith,
         found,
-        front-length 32 (drop from whole),
+        front-length space (drop from whole),
         length-drop from whole,
         c .before
             .before .loop-test .taken,
@@ -74,7 +75,7 @@ module _ (c : tie.After-find2 Inv-loop μ-loop) where
   part : take (from + c .find2 .result - from) (drop from whole) ≡ word
   part =
       let e : from + c .find2 .result - from ≡ c .find2 .result = omega arith in
-      ap (λ (k : ℕ). take k (drop from whole)) e ∙ part-front 32 (drop from whole) found
+      ap (λ (k : ℕ). take k (drop from whole)) e ∙ part-front space (drop from whole) found
 
 told : (c : tie.After-is-name Inv-loop μ-loop)
     → nameShaped (word (c .before .before)) ≡ c .is-name .result
@@ -92,13 +93,13 @@ returns-2 c =
     let past = c .before .before .before .before in
     let long = sym (past .before .find .ensures) ∙ past .if1 .left in
     c .turned-down2 .ensures
-    ∙ sym (answer-word _ (rw (front-take 32 (past .before .before .before .args .line .now), long)
+    ∙ sym (answer-word _ (rw (front-take space (past .before .before .before .args .line .now), long)
     (sym (c .before .before .starts-with .ensures) ∙ not-true _ (c .before .if2 .taken))))
 
 loop-holds : tie.Need-loop-holds Inv-loop μ-loop
 loop-holds c =
     let long = first-long c in
-    ([], (naming-starts (line c), (omega (arith, long, front-length 32 (line c)), search needs)))
+    ([], (naming-starts (line c), (omega (arith, long, front-length space (line c)), search needs)))
 
 add-end : tie.Need-add-end Inv-loop μ-loop
 add-end c = record { fits = omega (arith, fits c) }

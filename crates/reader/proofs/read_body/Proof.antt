@@ -4,7 +4,7 @@ use mathlib.Core.List.{List}
 use mathlib.Core.Path.{_≡_, sym, ap, _∙_}
 use lib.ListN.{length}
 use Rattle.text.specs.inner.Cut.{split, front, lines}
-use Rattle.text.specs.Lines.{LF}
+use Rattle.text.specs.Lines.{LF, space}
 use Rattle.header.specs.inner.Header.{signalsAnswer}
 use Rattle.reader.specs.inner.File.{rowsAnswer}
 use Rattle.text.proofs.Parts.{part-front}
@@ -24,10 +24,10 @@ module _ (c : tie.After-read-signals) where
   some : length rest ≡ 0 → ⊥
   some = c .before .before .before .if1 .left
 
-  read-is : c .read-signals .result ≡ signalsAnswer (split 32 (front LF rest))
+  read-is : c .read-signals .result ≡ signalsAnswer (split space (front LF rest))
   read-is =
       c .read-signals .ensures
-      ∙ ap (λ (l : List ℕ). signalsAnswer (split 32 l)) (part-front LF rest found)
+      ∙ ap (λ (l : List ℕ). signalsAnswer (split space l)) (part-front LF rest found)
 
 returns : tie.Need-returns
 returns c = c .refused .ensures ∙ sym (body-none _ (c .before .if1 .taken))

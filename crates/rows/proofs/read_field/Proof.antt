@@ -7,12 +7,13 @@ use Rattle.text.specs.inner.Cut.{front}
 use Rattle.rows.specs.inner.Row.{fieldOf}
 use Rattle.text.proofs.Parts.{part-front}
 use Rattle.rows.proofs.read_field.Statement.{statement}
+use Rattle.text.specs.Lines.{comma}
 use Rattle.rows.proofs.read_field.Tie as tie
 
 -- The part up to the next comma.
 part : (c : tie.After-is-bound) → let rest = c .before .before .before .args .rest .now in
-    take (c .before .find .result) rest ≡ front 44 rest
-part c = part-front 44 _ (c .before .find .ensures)
+    take (c .before .find .result) rest ≡ front comma rest
+part c = part-front comma _ (c .before .find .ensures)
 
 part-length : (c : tie.After-is-bound) → let end = c .before .find .result in
     end ≡ length (take end (c .before .before .before .args .rest .now))

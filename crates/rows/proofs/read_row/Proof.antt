@@ -6,7 +6,7 @@ use mathlib.Core.Bool.{true}
 use mathlib.Core.Path.{_≡_, sym, _∙_}
 use lib.ListN.{take}
 use Rattle.letters.specs.Lists.{sameBytes}
-use Rattle.text.specs.Lines.{count}
+use Rattle.text.specs.Lines.{count, comma}
 use Rattle.rows.specs.Row.{ruleWord}
 use Rattle.rows.specs.inner.Row.{rowAnswer}
 use Rattle.rows.proofs.RowLaws.{rule-length, rule-commas, row-fault, row-good, values-held}
@@ -20,7 +20,7 @@ rule : (c : tie.Else1)
 rule c = sym (c .before .starts-with .ensures) ∙ not-false _ (c .if1 .left)
 
 commas : (c : tie.Else2)
-    → count 44 (c .before .before .before .before .before .before .args .line .now) ≡ 11
+    → count comma (c .before .before .before .before .before .before .args .line .now) ≡ 11
 commas c = sym (c .before .count-of .ensures) ∙ c .if2 .left
 
 returns : tie.Need-returns

@@ -13,6 +13,7 @@ use Rattle.text.proofs.Parts.{rest-whole}
 use Rattle.rows.proofs.RowLaws.{Gathered, Here, here-front, gathered-none, gathered-next}
 use Rattle.rows.proofs.RowLaws.{gathered-fault, gathered-all}
 use Rattle.rows.proofs.read_values.Statement.{statement}
+use Rattle.text.specs.Lines.{comma}
 use Rattle.rows.proofs.read_values.Tie as tie
 
 abbrev Inv-loop : tie.InvT-loop
@@ -31,13 +32,13 @@ here c = c .before .loop .inv .here (c .loop-test .taken)
 read : (c : tie.After-read-field Inv-loop μ-loop) → let q = c .before .before .before in
     let a = q .before .before .args in
     fieldOf (take (a .signals) (a .names)) (width (a .signals)) (q .loop .k)
-    (front 44 (drop (q .loop .at) (a .line .now)))
+    (front comma (drop (q .loop .at) (a .line .now)))
     ≡ c .read-field .result
 read c = sym (rw rest-whole at (c .read-field .ensures))
 
 found : (c : tie.After-find Inv-loop μ-loop)
     → let q = c .before .before .before .before .before .before .before in
-    c .find .result ≡ length (front 44 (drop (q .loop .at) (q .before .before .args .line .now)))
+    c .find .result ≡ length (front comma (drop (q .loop .at) (q .before .before .args .line .now)))
 found c = rw rest-whole at (c .find .ensures)
 
 found-within : (c : tie.After-find Inv-loop μ-loop)
