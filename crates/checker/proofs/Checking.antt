@@ -6,18 +6,18 @@ use Rattle.table.specs.declared.Outcome.the-variants.{Accepted, Refused}
 use Rattle.table.specs.declared.Refusal.{Refusal}
 use Rattle.reader.specs.declared.Reading.{Reading}
 use Rattle.reader.specs.inner.File.{readAnswer}
-use Rattle.search.specs.Answer.{Lent}
-use Rattle.checker.specs.Answer.{behindReading, checkAnswer, Call}
+use Rattle.search.specs.Lent.{Lent}
+use Rattle.checker.specs.FileReport.{afterReading, checkAnswer, Call}
 
 module _ (bytes : List ℕ) (lent : Lent) {reading : Reading} (read : reading ≡ readAnswer bytes)
   where
     pub refused-checked : {refusal : Refusal} → reading .outcome ≡ Refused refusal
-        → checkAnswer bytes lent ≡ behindReading (Refused refusal) (reading .table) lent
+        → checkAnswer bytes lent ≡ afterReading (Refused refusal) (reading .table) lent
     unfolding checkAnswer
     refused-checked e = rw (← read, e)
 
     pub accepted-checked : reading .outcome ≡ Accepted
-        → checkAnswer bytes lent ≡ behindReading Accepted (reading .table) lent
+        → checkAnswer bytes lent ≡ afterReading Accepted (reading .table) lent
     unfolding checkAnswer
     accepted-checked e = rw (← read, e)
 

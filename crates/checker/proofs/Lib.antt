@@ -1,4 +1,4 @@
--- `Checking`: what is reported of a file, by what the reader makes of it. `Short`: how long a
--- report can be.
+-- `Checking`: what is reported of a file, by what the reader makes of it. `ReportLength`: how long
+-- a report can be.
 pub mod Checking
-pub mod Short
+pub mod ReportLength

@@ -1,2 +1,2 @@
 -- The checker: from the bytes of a file to the bytes of its report.
-pub mod Answer
+pub mod FileReport

@@ -1,49 +1,15 @@
-// The checker: the bytes of a table file in, the bytes of its report out. specs/Answer.antt says
-// what is right, for every file and all lent memory.
-use report::Answer;
-use report::Size;
-use report::Trap;
-use search::Found;
-use search::Verdict;
+// The checker: the bytes of a table file in, the bytes of its report out. specs/FileReport.antt
+// says what is right, for every file and all lent memory.
 use table::Outcome;
-use table::Refusal;
+use verdict::Found;
 ghost use mathlib.Core.Path.{_≡_};
 ghost use lib.ListN.{length};
-ghost use Rattle.search.specs.Answer.{lentLists};
-ghost use Rattle.report.specs.Buffer.{written};
-ghost use Rattle.checker.specs.Answer.{answerOf, checkAnswer, checkCall};
-ghost use Rattle.checker.specs.Answer.{programLent};
+ghost use Rattle.verdict.specs.Buffer.{written};
+ghost use Rattle.search.specs.Lent.{lentLists};
+ghost use Rattle.checker.specs.FileReport.{checkAnswer, checkCall, programLent};
 
 // "The program lends room 4,096 and a trace buffer of as many bytes."
 const ROOM: usize = 4096;
-
-// What the report says of what the search found in a table of so many rows.
-fn answer_of(rows: u8, found: Found) -> Answer
-    ensures { λ r. ⌜ r ≡ answerOf rows found ⌝ }
-{
-    let outcome = found.outcome;
-    match outcome {
-        Outcome::Refused(refusal) => Answer::Refused(refusal),
-        Outcome::Accepted => {
-            let size = Size {
-                rules: rows,
-                count: found.count,
-            };
-            let verdict = found.verdict;
-            match verdict {
-                Verdict::Sound => Answer::Sound(size),
-                Verdict::Trapped => {
-                    let trap = Trap {
-                        length: found.length,
-                        lost: found.lost,
-                    };
-                    Answer::Trapped(size, trap)
-                }
-                Verdict::Absent => Answer::Refused(Refusal { number: 0, line: 0 }),
-            }
-        }
-    }
-}
 
 // Reads the file, searches its table with the scratch and the trace buffer that are lent, writes
 // the report from the front of `out`, and answers the report's length. If that is more than `out`
@@ -70,12 +36,11 @@ pub fn check(
     let read = reader::read(bytes);
     let outcome = read.outcome;
     match outcome {
-        Outcome::Refused(refusal) => report::write(Answer::Refused(refusal), 0, &*trace, out),
+        Outcome::Refused(refusal) => report::write(Found::Refused(refusal), 0, 0, &*trace, out),
         Outcome::Accepted => {
             let table = read.table;
             let found = search::search(table, states, predecessors, letters, lost, trace);
-            let answer = answer_of(table.count, found);
-            report::write(answer, table.signals, &*trace, out)
+            report::write(found, table.count, table.signals, &*trace, out)
         }
     }
 }

@@ -8,7 +8,7 @@ use libc::STDOUT_FILENO;
 // The first bytes of a file that is too long are enough to say so.
 const MOST_READ: usize = 4097;
 
-// No report is longer.
+// No report is longer: `mostReport` of the crate checker.
 const MOST_REPORT: usize = 70000;
 
 fn print_report(file: &[u8]) {

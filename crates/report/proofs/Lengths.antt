@@ -8,13 +8,14 @@ use Rattle.text.specs.Bounds.{decimal}
 use Rattle.text.specs.Lines.{LF, ended}
 use Rattle.text.proofs.Decimals.{decimal-length}
 use Rattle.text.proofs.Joins.{ended-append}
-use Rattle.report.specs.declared.Answer.{Answer}
-use Rattle.report.specs.declared.Answer.the-variants.{Refused, Sound, Trapped}
-use Rattle.report.specs.declared.Size.{Size}
-use Rattle.report.specs.declared.Trap.{Trap}
+use Rattle.table.specs.Limits.{mostSignals}
+use Rattle.verdict.specs.declared.Found.{Found}
+use Rattle.verdict.specs.declared.Found.the-variants.{Refused, Sound, Trapped}
+use Rattle.verdict.specs.declared.Trap.{Trap}
+use Rattle.verdict.specs.Found.{Values, valuesOf}
 use Rattle.report.specs.Report.{heading, refusedWord, lineWord, refusedLine, rulesWord}
 use Rattle.report.specs.Report.{countWord, sizeLines, soundLine, trappedLine, lostWord}
-use Rattle.report.specs.Report.{values, tickLine, tickLines, trapLines, reportLines}
+use Rattle.report.specs.Report.{signalValues, tickLine, tickLines, trapLines, reportLines}
 use Rattle.report.specs.Report.{reportBytes}
 
 -- A word, a number below 10^(k+1), and the line's end.
@@ -23,8 +24,8 @@ pub numbered-length : (k : ℕ) (word : List ℕ) (n : ℕ) → n < 10 ^ suc k
 numbered-length k word n low =
     let few = decimal-length k n low in rw (length-append, length-append) (omega arith)
 
-values-length : (n k letter : ℕ) → length (values n k letter) ≡ n
-unfolding values
+values-length : (n k letter : ℕ) → length (signalValues n k letter) ≡ n
+unfolding signalValues
 values-length zero k letter = refl
 values-length (suc n) k letter = ap suc (values-length n (suc k) letter)
 
@@ -66,71 +67,76 @@ last-length : (k : ℕ) (word : List ℕ) (n : ℕ) → n < 10 ^ suc k
 unfolding ended
 last-length = numbered-length
 
--- Numbers of few digits; and a report of such numbers, with up to six signals and up to 4,096
--- ticks.
-abbrev pub Few : Answer → Type 0
-Few (Refused r) = (r .number < 1000) × (r .line < 1000)
-Few (Sound n) = (n .rules < 1000) × (n .count < 100000)
-Few (Trapped n trap) =
-    (n .rules < 1000) × (n .count < 100000) × (trap .length ≤ 4096) × (trap .lost < 100000)
+-- Numbers of few digits, and a trace of at most so many ticks.
+pub record FewDigits (rows ticks : ℕ) (values : Values) : Type 0 where
+  pub rules : rows < 1000
+  pub number : values .number < 1000
+  pub line : values .line < 1000
+  pub short : values .length ≤ ticks
+  pub lost : values .lost < 100000
+  pub count : values .count < 100000
 
-size-length : (n : Size) → n .rules < 1000 → n .count < 100000
-    → length (ended (sizeLines n)) ≤ 31
-size-length n rules count =
-    let first = last-length 2 rulesWord (n .rules) rules in
-    let second = last-length 4 countWord (n .count) count in
+size-length : (rows n : ℕ) → rows < 1000 → n < 100000 → length (ended (sizeLines rows n)) ≤ 31
+size-length rows n few count =
+    let first = last-length 2 rulesWord rows few in
+    let second = last-length 4 countWord n count in
     omega (
       arith,
       first,
       second,
-      both-length ((rulesWord ++ decimal (n .rules)) ∷ []) ((countWord ++ decimal (n .count)) ∷ []),
+      both-length ((rulesWord ++ decimal rows) ∷ []) ((countWord ++ decimal n) ∷ []),
     )
 
-trap-length : (signals : ℕ) (buffer : List ℕ) (trap : Trap) → signals ≤ 6 → trap .length ≤ 4096
-    → trap .lost < 100000 → length (ended (trapLines signals buffer trap)) ≤ 69643
-trap-length signals buffer trap low short few =
-    let w = take (trap .length) buffer in
-    let ticks : length w ≤ 4096 = rw length-take (omega arith) in
-    let lines = ticks-length signals 3 17 (omega arith) 1 w (omega arith) in
-    let lost = last-length 4 lostWord (trap .lost) few in
-    let both = both-length (tickLines signals 1 w) ((lostWord ++ decimal (trap .lost)) ∷ []) in
-    omega (arith, lines, lost, both)
+module _ (rows signals ticks : ℕ) (buffer : List ℕ) (low : signals ≤ mostSignals)
+    (low-ticks : ticks < 10000) where
+  trap-length : (trap : Trap) → trap .length ≤ ticks → trap .lost < 100000
+      → length (ended (trapLines signals buffer trap)) ≤ 17 * ticks + 11
+  trap-length trap short few =
+      let w = take (trap .length) buffer in
+      let most : length w ≤ ticks = rw length-take (omega arith) in
+      let lines = ticks-length signals 3 17 (omega arith) 1 w (omega arith) in
+      let lost = last-length 4 lostWord (trap .lost) few in
+      let both = both-length (tickLines signals 1 w) ((lostWord ++ decimal (trap .lost)) ∷ []) in
+      omega (arith, lines, lost, both)
 
-pub report-short : (signals : ℕ) (buffer : List ℕ) (answer : Answer) → signals ≤ 6 → Few answer
-    → length (reportBytes signals buffer answer) ≤ 70000
-unfolding reportLines
-report-short signals buffer (Refused r) low few =
-    let number = decimal-length 2 (r .number) (few .0) in
-    let line = last-length 2 (refusedWord ++ decimal (r .number) ++ lineWord) (r .line) (few .1) in
-    let words = length-append (refusedWord ++ decimal (r .number)) lineWord in
-    omega (
-      arith,
-      line,
-      number,
-      words,
-      length-append refusedWord (decimal (r .number)),
-      more-length heading (refusedLine (r .number) (r .line) ∷ []),
-    )
-report-short signals buffer (Sound n) low few =
-    let size = size-length n (few .0) (few .1) in
-    let verdict = more-length soundLine [] in
-    omega (
-      arith,
-      size,
-      verdict,
-      none-length,
-      more-length heading (sizeLines n ++ soundLine ∷ []),
-      both-length (sizeLines n) (soundLine ∷ []),
-    )
-report-short signals buffer (Trapped n trap) low few =
-    let size = size-length n (few .0) (few .1) in
-    let trace = trap-length signals buffer trap low (few .2) (few .3) in
-    let rest = trapLines signals buffer trap in
-    omega (
-      arith,
-      size,
-      trace,
-      more-length heading (sizeLines n ++ trappedLine ∷ rest),
-      both-length (sizeLines n) (trappedLine ∷ rest),
-      more-length trappedLine rest,
-    )
+  pub report-short : (found : Found) → FewDigits rows ticks (valuesOf found)
+      → length (reportBytes rows signals buffer found) ≤ 17 * ticks + 100
+  unfolding reportLines
+  report-short (Refused r) few =
+      let number = decimal-length 2 (r .number) (few .number) in
+      let line = last-length 2 (refusedWord ++ decimal (r .number) ++ lineWord) (r .line)
+      (few .line) in
+      let words = length-append (refusedWord ++ decimal (r .number)) lineWord in
+      omega (
+        arith,
+        line,
+        number,
+        words,
+        length-append refusedWord (decimal (r .number)),
+        more-length heading (refusedLine (r .number) (r .line) ∷ []),
+      )
+  report-short (Sound summary) few =
+      let sizes = sizeLines rows (summary .count) in
+      let size = size-length rows (summary .count) (few .rules) (few .count) in
+      let verdict = more-length soundLine [] in
+      omega (
+        arith,
+        size,
+        verdict,
+        none-length,
+        more-length heading (sizes ++ soundLine ∷ []),
+        both-length sizes (soundLine ∷ []),
+      )
+  report-short (Trapped summary trap) few =
+      let sizes = sizeLines rows (summary .count) in
+      let size = size-length rows (summary .count) (few .rules) (few .count) in
+      let trace = trap-length trap (few .short) (few .lost) in
+      let rest = trapLines signals buffer trap in
+      omega (
+        arith,
+        size,
+        trace,
+        more-length heading (sizes ++ trappedLine ∷ rest),
+        both-length sizes (trappedLine ∷ rest),
+        more-length trappedLine rest,
+      )

@@ -1,6 +1,6 @@
 -- `Puts`, `Lines`: bytes and lines put one after the other. `Lengths`: how long a report's lines
--- are. `Telling`: different answers give different reports.
+-- are. `Injective`: different findings give different reports.
 pub mod Puts
 pub mod Lines
 pub mod Lengths
-pub mod Telling
+pub mod Injective

@@ -5,7 +5,7 @@ use mathlib.Core.List.{List, [], _∷_, _++_}
 use mathlib.Core.Path.{_≡_, refl, sym, ap, _∙_}
 use lib.ListN.{length, set, length-append}
 use lib.Seq.{sets, length-sets}
-use Rattle.report.specs.Buffer.{written}
+use Rattle.verdict.specs.Buffer.{written}
 use Rattle.report.specs.inner.Puts.{Puts, Countable}
 
 sets-append : (xs ys buffer : List ℕ) (at : ℕ)
@@ -15,9 +15,9 @@ sets-append (x ∷ xs) ys buffer at =
     sets-append xs ys (set buffer at x) (suc at)
     ∙ ap (λ (k : ℕ). sets (sets (set buffer at x) (suc at) xs) k ys) (omega arith)
 
-sets-behind : (xs ys : List ℕ) (y at : ℕ) → sets (y ∷ ys) (suc at) xs ≡ y ∷ sets ys at xs
-sets-behind [] ys y at = refl
-sets-behind (x ∷ xs) ys y at = sets-behind xs (set ys at x) y (suc at)
+sets-after : (xs ys : List ℕ) (y at : ℕ) → sets (y ∷ ys) (suc at) xs ≡ y ∷ sets ys at xs
+sets-after [] ys y at = refl
+sets-after (x ∷ xs) ys y at = sets-after xs (set ys at x) y (suc at)
 
 sets-none : (xs : List ℕ) (at : ℕ) → sets [] at xs ≡ []
 sets-none [] at = refl
@@ -27,7 +27,7 @@ sets-front : (bytes buffer : List ℕ) → sets buffer 0 bytes ≡ written bytes
 sets-front [] [] = refl
 sets-front [] (y ∷ ys) = refl
 sets-front (x ∷ xs) [] = sets-none xs 1
-sets-front (x ∷ xs) (y ∷ ys) = sets-behind xs ys x 0 ∙ ap (_∷_ x) (sets-front xs ys)
+sets-front (x ∷ xs) (y ∷ ys) = sets-after xs ys x 0 ∙ ap (_∷_ x) (sets-front xs ys)
 
 module _ {at : ℕ} {xs buffer : List ℕ} {next : ℕ} {between : List ℕ}
     (first : Puts at xs buffer next between) where
@@ -41,8 +41,8 @@ module _ {at : ℕ} {xs buffer : List ℕ} {next : ℕ} {between : List ℕ}
         (sym (sets-append xs ys buffer at));
   }
 
-  pub countable-behind : (ys : List ℕ) → Countable at (xs ++ ys) → Countable next ys
-  countable-behind ys c =
+  pub countable-after : (ys : List ℕ) → Countable at (xs ++ ys) → Countable next ys
+  countable-after ys c =
       record { low = omega (arith, first .next-is, rw length-append at (c .low)) }
 
 pub countable-front : (at : ℕ) (xs ys : List ℕ) → Countable at (xs ++ ys) → Countable at xs

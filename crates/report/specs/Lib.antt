@@ -1,4 +1,3 @@
 -- The report.
 pub mod Report
-pub mod Buffer
 pub mod inner

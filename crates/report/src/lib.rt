@@ -1,38 +1,23 @@
-// The report, to the byte, of what the checker found. specs/Report.antt says what is right, for
-// every answer and every lent buffer.
+// The report, to the byte, of what is found of a table. specs/Report.antt says what is right, for
+// all that can be found and every lent buffer.
 mod put;
 
 use table::Refusal;
 use text::LF;
+use verdict::Found;
+use verdict::Summary;
+use verdict::Trap;
 ghost use mathlib.Core.List.{[], _∷_, _++_};
 ghost use mathlib.Core.Path.{_≡_};
 ghost use lib.ListN.{length, take};
 ghost use Prim.Native.Nat.{_+_, _≤_};
 ghost use Rattle.text.specs.Bounds.{decimal};
 ghost use Rattle.text.specs.Lines.{LF as lineEnd, ended};
-ghost use Rattle.report.specs.Buffer.{written};
+ghost use Rattle.verdict.specs.Buffer.{written};
 ghost use Rattle.report.specs.inner.Puts.{Puts, Countable};
 ghost use Rattle.report.specs.Report.{refusedLine, sizeLines, tickLine, tickLines};
 ghost use Rattle.report.specs.Report.{trapLines, reportBytes};
 
-// How many rows the table has, and how many states are reached.
-pub struct Size {
-    pub rules: u8,
-    pub count: u16,
-}
-
-// The trap: how many letters of the trace buffer lead into it, and the lost number there.
-pub struct Trap {
-    pub length: u16,
-    pub lost: u16,
-}
-
-// What a report tells.
-pub enum Answer {
-    Refused(Refusal),
-    Sound(Size),
-    Trapped(Size, Trap),
-}
 
 // A word, a number and the line's end.
 fn numbered(out: &mut [u8], at: usize, word: &[u8], n: u16) -> usize
@@ -53,7 +38,7 @@ fn tick_line(out: &mut [u8], at: usize, signals: u8, tick: u16, letter: u8) -> u
     let number = put::word(out, at, b"tick ");
     let space = put::decimal(out, number, tick);
     let first = put::byte(out, space, b' ');
-    let end = put::values(out, first, signals, letter);
+    let end = put::signal_values(out, first, signals, letter);
     put::byte(out, end, LF)
 }
 
@@ -76,7 +61,7 @@ fn tick_lines(out: &mut [u8], at: usize, signals: u8, trace: &[u8], length: u16)
     next
 }
 
-// The lines behind the heading: the refusal; the table's size; and the trap.
+// The lines after the heading: the refusal; the table's size; and the trap.
 fn refused(out: &mut [u8], at: usize, refusal: Refusal) -> usize
     requires { ⌜ at ≤ 100 ⌝ }
     ensures { λ r. ⌜ Puts at (refusedLine (refusal .number) (refusal .line) ++ lineEnd ∷ [])
@@ -87,13 +72,14 @@ fn refused(out: &mut [u8], at: usize, refusal: Refusal) -> usize
     numbered(out, word, b" line ", refusal.line as u16)
 }
 
-fn sized(out: &mut [u8], at: usize, size: Size) -> usize
+fn sized(out: &mut [u8], at: usize, rows: u8, summary: Summary) -> usize
     requires { ⌜ at ≤ 100 ⌝ }
-    ensures { λ r. ⌜ Puts at (ended (sizeLines size)) (now (out .entry)) r (now (out .exit)) ⌝ }
+    ensures { λ r. ⌜ Puts at (ended (sizeLines rows (summary .count))) (now (out .entry)) r
+        (now (out .exit)) ⌝ }
     ensures { λ r. ⌜ r ≤ at + 31 ⌝ }
 {
-    let count = numbered(out, at, b"rules ", size.rules as u16);
-    numbered(out, count, b"configurations ", size.count)
+    let count = numbered(out, at, b"rules ", rows as u16);
+    numbered(out, count, b"configurations ", summary.count)
 }
 
 fn trapped(out: &mut [u8], at: usize, signals: u8, trace: &[u8], trap: Trap) -> usize
@@ -105,22 +91,23 @@ fn trapped(out: &mut [u8], at: usize, signals: u8, trace: &[u8], trap: Trap) -> 
     numbered(out, lost, b"lost ", trap.lost)
 }
 
-// Writes the report from the buffer's front, and answers its length. A buffer that is shorter holds
-// as much as it takes; the rest of a longer one is unchanged.
-pub fn write(answer: Answer, signals: u8, trace: &[u8], out: &mut [u8]) -> usize
-    ensures { λ r. ⌜ r ≡ length (reportBytes signals (now (trace .entry)) answer) ⌝ }
+// Writes the report of a table with so many rows and signals from the buffer's front, and answers
+// its length. The trace of a trap is at the front of the trace buffer. An `out` that is shorter
+// than the report holds as much as it takes; the rest of a longer one is unchanged.
+pub fn write(found: Found, rows: u8, signals: u8, trace: &[u8], out: &mut [u8]) -> usize
+    ensures { λ r. ⌜ r ≡ length (reportBytes rows signals (now (trace .entry)) found) ⌝ }
     ensures { λ _. ⌜ now (out .exit)
-        ≡ written (reportBytes signals (now (trace .entry)) answer) (now (out .entry)) ⌝ }
+        ≡ written (reportBytes rows signals (now (trace .entry)) found) (now (out .entry)) ⌝ }
 {
     let at = put::word(out, 0, b"PNP report\n");
-    match answer {
-        Answer::Refused(refusal) => refused(out, at, refusal),
-        Answer::Sound(size) => {
-            let verdict = sized(out, at, size);
+    match found {
+        Found::Refused(refusal) => refused(out, at, refusal),
+        Found::Sound(summary) => {
+            let verdict = sized(out, at, rows, summary);
             put::word(out, verdict, b"verdict sound\n")
         }
-        Answer::Trapped(size, trap) => {
-            let verdict = sized(out, at, size);
+        Found::Trapped(summary, trap) => {
+            let verdict = sized(out, at, rows, summary);
             let ticks = put::word(out, verdict, b"verdict trapped\n");
             trapped(out, ticks, signals, trace, trap)
         }

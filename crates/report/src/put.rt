@@ -5,7 +5,7 @@ ghost use mathlib.Core.Path.{_≡_};
 ghost use lib.ListN.{set};
 ghost use Rattle.text.specs.Bounds.{decimal as decimalOf};
 ghost use Rattle.report.specs.inner.Puts.{Puts, Countable};
-ghost use Rattle.report.specs.Report.{values as valuesOf};
+ghost use Rattle.report.specs.Report.{signalValues};
 
 fn store(out: &mut [u8], at: usize, b: u8)
     ensures { λ _. ⌜ now (out .exit) ≡ set (now (out .entry)) at b ⌝ }
@@ -48,9 +48,9 @@ pub(crate) fn decimal(out: &mut [u8], at: usize, n: u16) -> usize
 }
 
 // The value of each signal at a letter, `0` or `1`.
-pub(crate) fn values(out: &mut [u8], at: usize, signals: u8, letter: u8) -> usize
-    requires { ⌜ Countable at (valuesOf signals 0 letter) ⌝ }
-    ensures { λ r. ⌜ Puts at (valuesOf signals 0 letter) (now (out .entry)) r
+pub(crate) fn signal_values(out: &mut [u8], at: usize, signals: u8, letter: u8) -> usize
+    requires { ⌜ Countable at (signalValues signals 0 letter) ⌝ }
+    ensures { λ r. ⌜ Puts at (signalValues signals 0 letter) (now (out .entry)) r
         (now (out .exit)) ⌝ }
 {
     let mut rest = letter;

@@ -1,7 +1,7 @@
 -- `check_file` meets its contract: that of `check`, with the program's memory. Assumes nothing.
 use borrow.Author.Needs.{needs}
 use mathlib.Core.Path.{ap}
-use Rattle.checker.specs.Answer.{Call}
+use Rattle.checker.specs.FileReport.{Call}
 use Rattle.checker.proofs.check_file.Statement.{statement}
 use Rattle.checker.proofs.check_file.Tie as tie
 

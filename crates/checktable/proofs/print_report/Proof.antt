@@ -4,7 +4,7 @@ use borrow.Author.Needs.{needs}
 use native.Mathlib.Omega.{arith}
 use mathlib.Core.Path.{sym}
 use lib.Seq.{length-take-le}
-use Rattle.checker.proofs.Short.{program-short}
+use Rattle.checker.proofs.ReportLength.{program-short}
 use Rattle.checktable.proofs.print_report.Statement.{statement}
 use Rattle.checktable.proofs.print_report.Tie as tie
 

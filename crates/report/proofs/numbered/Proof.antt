@@ -1,28 +1,40 @@
--- `numbered` meets its contract: word, number and line end, one behind the other. Assumes nothing.
+-- `numbered` meets its contract: word, number and line end, one after the other. Assumes nothing.
 use borrow.Author.Needs.{needs}
-use Rattle.report.proofs.Puts.{puts-append, countable-front, countable-behind}
+use Rattle.report.proofs.Puts.{puts-append, countable-front, countable-after}
 use Rattle.report.proofs.numbered.Statement.{statement}
 use Rattle.report.proofs.numbered.Tie as tie
+
+-- The calls, from the last to the first.
+abbrev counted : tie.After-byte-arg → tie.After-decimal
+counted c = c .before .before .before
+
+abbrev worded : tie.After-decimal-arg → tie.After-word
+worded c = c .before .before .before
+
+abbrev start : tie.After-word → tie.Start
+start c = c .before .before .before .before
 
 word-requires : tie.Need-word-requires
 word-requires c κs = countable-front _ _ _ (countable-front _ _ _ (c .before .before .before .pre))
 
 decimal-requires : tie.Need-decimal-requires
-decimal-requires c κs = countable-behind (c .before .before .before .word .ensures) _
-    (countable-front _ _ _ (c .before .before .before .before .before .before .before .pre))
+decimal-requires c κs =
+    let word = worded c in
+    countable-after (word .word .ensures) _ (countable-front _ _ _ (start word .pre))
 
 byte-requires : tie.Need-byte-requires
 byte-requires c κs =
-    countable-behind (puts-append (c .before .before .before .before .before .before .before .word
-    .ensures) (c .before .before .before .decimal .ensures)) _
-    (c .before .before .before .before .before .before .before .before .before .before .before
-    .pre)
+    let number = counted c in
+    let word = worded (number .before) in
+    countable-after (puts-append (word .word .ensures) (number .decimal .ensures)) _
+    (start word .pre)
 
 returns : tie.Need-returns
 returns c =
-    puts-append (puts-append (c .before .before .before .before .before .before .before .before
-    .before .before .word .ensures) (c .before .before .before .before .before .before .decimal
-    .ensures)) (c .before .before .byte .ensures)
+    let end = c .before .before in
+    let number = counted (end .before) in
+    let word = worded (number .before) in
+    puts-append (puts-append (word .word .ensures) (number .decimal .ensures)) (end .byte .ensures)
 
 pub numbered-spec : {M : Type 1} → statement M
 numbered-spec =

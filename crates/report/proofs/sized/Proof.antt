@@ -1,52 +1,61 @@
--- `sized` meets its contract: its two lines, one behind the other. Assumes nothing.
+-- `sized` meets its contract: its two lines, one after the other. Assumes nothing.
+use Prim.Native.Nat.{_≤_}
 use borrow.Author.Needs.{needs}
 use native.Mathlib.Omega.{arith}
-use mathlib.Core.List.{_++_}
+use mathlib.Core.List.{[], _∷_, _++_}
+use lib.ListN.{length}
 use Rattle.text.specs.Bounds.{decimal}
+use Rattle.text.specs.Lines.{LF}
 use Rattle.report.specs.Report.{rulesWord, countWord}
 use Rattle.report.proofs.Lines.{puts-line, puts-last}
 use Rattle.report.proofs.Lengths.{numbered-length}
 use Rattle.report.proofs.sized.Statement.{statement}
 use Rattle.report.proofs.sized.Tie as tie
 
+-- How long the two lines can be.
+module _ (c : tie.Start) where
+  rules-short : length (rulesWord ++ decimal (c .args .rows) ++ LF ∷ []) ≤ 10
+  rules-short = numbered-length 2 rulesWord (c .args .rows) (search needs)
+
+  count-short : length (countWord ++ decimal (c .args .summary .count) ++ LF ∷ []) ≤ 21
+  count-short = numbered-length 4 countWord (c .args .summary .count) (search needs)
+
+abbrev start : tie.After-numbered → tie.Start
+start c = c .before .before .before .before
+
 numbered-requires : tie.Need-numbered-requires
 numbered-requires c κs =
-    let rules = numbered-length 2 rulesWord (c .before .before .before .before .args .size .rules)
-    (search needs) in
-    record { low = omega (arith, rules, c .before .before .before .before .pre) }
+    let at = c .before .before .before in
+    record { low = omega (arith, rules-short at, at .pre) }
 
 numbered-requires-2 : tie.Need-numbered-requires-2
 numbered-requires-2 c κs =
-    let rules = numbered-length 2 rulesWord (c .before .before .before .before .before .before
-    .before .before .before .args .size .rules) (search needs) in
-    let count = numbered-length 4 countWord (c .before .before .before .before .before .before
-    .before .before .before .args .size .count) (search needs) in
+    let first = c .before .before .before .before in
+    let at = start first in
     record {
       low = omega (
         arith,
-        rules,
-        count,
-        c .before .before .before .before .numbered .ensures
-            .next-is,
-        c .before .before .before .before .before .before .before .before .before .pre,
+        rules-short at,
+        count-short at,
+        first .numbered .ensures .next-is,
+        at .pre,
       );
     }
 
 returns : tie.Need-returns
 returns c =
-    let size = c .before .before .before .before .before .before .before .before .before .before
-    .before .before .args .size in
-    let first = c .before .before .before .before .before .before .before .numbered .ensures in
-    let second = c .before .before .numbered2 .ensures in
-    let rules = numbered-length 2 rulesWord (size .rules) (search needs) in
-    let count = numbered-length 4 countWord (size .count) (search needs) in (
-      puts-line (rulesWord ++ decimal (size .rules)) _ first
-          (puts-last (countWord ++ decimal (size .count)) second),
-      omega (arith, rules, count, first .next-is, second .next-is),
+    let second = c .before .before in
+    let first = second .before .before .before .before .before in
+    let at = start first in
+    let rules = first .numbered .ensures in
+    let count = second .numbered2 .ensures in (
+      puts-line (rulesWord ++ decimal (at .args .rows)) _ rules
+          (puts-last (countWord ++ decimal (at .args .summary .count)) count),
+      omega (arith, rules-short at, count-short at, rules .next-is, count .next-is),
     )
 
 pub sized-spec : {M : Type 1} → statement M
 sized-spec =
     tie.close (tie.spec
-    (λ c. search needs) (λ c. search needs) numbered-requires (λ c. search needs)
-    numbered-requires-2 (λ c. search needs) returns)
+    (λ c. search needs) numbered-requires (λ c. search needs) numbered-requires-2
+    (λ c. search needs) returns)

@@ -1,4 +1,4 @@
--- `tick_lines` meets its contract. The invariant: the lines of the ticks that are left, put behind
+-- `tick_lines` meets its contract. The invariant: the lines of the ticks that are left, put after
 -- what is done, make the whole. The measure: how many ticks are left. Assumes nothing.
 use Prim.Native.Nat.{ℕ, suc, _+_, _-_, _<_, _≤_}
 use borrow.Author.Needs.{needs}
@@ -35,13 +35,13 @@ module _ {out₀ : List ℕ} {at signals : ℕ} {trace : List ℕ} {n : ℕ} {ou
   unfolding tickLines ended
   left-more low some =
       let text = tickLine signals (suc tick) (getD trace tick 0) in
-      let behind = ended (tickLines signals (suc (suc tick)) (drop (suc tick) (take n trace))) in
+      let others = ended (tickLines signals (suc (suc tick)) (drop (suc tick) (take n trace))) in
       rw (
         drop-cons (take n trace) tick 0 (lt-length-take n trace tick low some),
         getD-take n trace tick 0 low,
         add-one tick,
         add-one (suc tick),
-      ) (sym (append-assoc text (LF ∷ []) behind))
+      ) (sym (append-assoc text (LF ∷ []) others))
 
   line-countable : tick < n → tick < length trace → Countable at (left signals n trace 0)
       → Countable next line

@@ -1,11 +1,11 @@
--- `trapped` meets its contract: the tick lines, and behind them the lost number. Assumes nothing.
-use Prim.Native.Nat.{ℕ, _+_, _<_, _≤_}
+-- `trapped` meets its contract: the tick lines, and after them the lost number. Assumes nothing.
+use Prim.Native.Nat.{ℕ, _<_, _≤_}
 use borrow.Author.Needs.{needs}
 use native.Mathlib.Omega.{arith}
-use mathlib.Core.List.{List, _++_}
+use mathlib.Core.List.{List, [], _∷_, _++_}
 use lib.ListN.{length, take, length-take}
 use Rattle.text.specs.Bounds.{decimal}
-use Rattle.text.specs.Lines.{ended}
+use Rattle.text.specs.Lines.{LF, ended}
 use Rattle.report.specs.Report.{lostWord, tickLines}
 use Rattle.report.proofs.Lines.{puts-lines, puts-last}
 use Rattle.report.proofs.Lengths.{numbered-length, ticks-length}
@@ -20,37 +20,45 @@ ticks-few signals n trace few short =
     let all = ticks-length signals 4 267 (omega arith) 1 (take n trace) (omega arith) in
     omega (arith, all, most)
 
+-- The tick lines of the call, and its last line.
+module _ (c : tie.Start) where
+  lines-few : length (ended (tickLines (c .args .signals) 1
+      (take (c .args .trap .length) (c .args .trace .now)))) ≤ 20000000
+  lines-few = ticks-few (c .args .signals) (c .args .trap .length) (c .args .trace .now)
+      (search needs) (search needs)
+
+  lost-short : length (lostWord ++ decimal (c .args .trap .lost) ++ LF ∷ []) ≤ 11
+  lost-short = numbered-length 4 lostWord (c .args .trap .lost) (search needs)
+
+abbrev start : tie.After-tick-lines → tie.Start
+start c = c .before .before .before .before
+
 tick-lines-requires : tie.Need-tick-lines-requires
 tick-lines-requires c κs =
-    let args = c .before .before .before .args in
-    let few = ticks-few (args .signals) (args .trap .length) (args .trace .now) (search needs)
-    (search needs) in
-    record { low = omega (arith, few, c .before .before .before .pre) }
+    let at = c .before .before .before in record { low = omega (arith, lines-few at, at .pre) }
 
 numbered-requires : tie.Need-numbered-requires
 numbered-requires c κs =
-    let args = c .before .before .before .before .before .before .before .before .args in
-    let few = ticks-few (args .signals) (args .trap .length) (args .trace .now) (search needs)
-    (search needs) in
-    let lost = numbered-length 4 lostWord (args .trap .lost) (search needs) in
+    let ticks = c .before .before .before .before in
+    let at = start ticks in
     record {
       low = omega (
         arith,
-        few,
-        lost,
-        c .before .before .before .before .tick-lines .ensures
-            .next-is,
-        c .before .before .before .before .before .before .before .before .pre,
+        lines-few at,
+        lost-short at,
+        ticks .tick-lines .ensures .next-is,
+        at .pre,
       );
     }
 
 returns : tie.Need-returns
 returns c =
-    let args = c .before .before .before .before .before .before .before .before .before .before
-    .before .args in
+    let lost = c .before .before in
+    let ticks = lost .before .before .before .before .before in
+    let args = start ticks .args in
     puts-lines (tickLines (args .signals) 1 (take (args .trap .length) (args .trace .now))) _
-    (c .before .before .before .before .before .before .before .tick-lines .ensures)
-    (puts-last (lostWord ++ decimal (args .trap .lost)) (c .before .before .numbered .ensures))
+    (ticks .tick-lines .ensures)
+    (puts-last (lostWord ++ decimal (args .trap .lost)) (lost .numbered .ensures))
 
 pub trapped-spec : {M : Type 1} → statement M
 trapped-spec =

@@ -1,4 +1,4 @@
--- `write` meets its contract: for each answer its lines, one behind the other, from the front.
+-- `write` meets its contract: the lines of what is found, one after the other, from the front.
 -- Assumes nothing.
 use borrow.Author.Needs.{needs}
 use native.Mathlib.Omega.{arith}
@@ -9,73 +9,79 @@ use Rattle.report.proofs.Lines.{puts-line, puts-lines, puts-last}
 use Rattle.report.proofs.write.Statement.{statement}
 use Rattle.report.proofs.write.Tie as tie
 
+-- The heading, from where it is known what is found.
+abbrev headed : tie.After-slice-known2 → tie.After-word
+headed c = c .before .before
+
+-- What is found, from the size under each verdict.
+abbrev sound : tie.After-sized → tie.After-found2
+sound c = c .before .before .before
+
+abbrev trap : tie.After-sized2 → tie.After-found3
+trap c = c .before .before .before
+
+-- The size, from the verdict's line.
+abbrev size-sound : tie.After-word-arg4 → tie.After-sized
+size-sound c = c .before .before .before .before
+
+abbrev size-trapped : tie.After-word-arg6 → tie.After-sized2
+size-trapped c = c .before .before .before .before
+
 word-requires-2 : tie.Need-word-requires-2
 word-requires-2 c κs =
-    record {
-      low = omega (
-        arith,
-        c .before .before .before .before .sized .ensures .1,
-        c .before
-            .before .before .before .before .before .before .before .before .before .before .word
-            .ensures .next-is,
-      );
-    }
+    let size = size-sound c in
+    let word = headed (sound size .before .before) in
+    record { low = omega (arith, size .sized .ensures .1, word .word .ensures .next-is) }
 
 word-requires-3 : tie.Need-word-requires-3
 word-requires-3 c κs =
-    record {
-      low = omega (
-        arith,
-        c .before .before .before .before .sized2 .ensures .1,
-        c .before
-            .before .before .before .before .before .before .before .before .before .before .word
-            .ensures .next-is,
-      );
-    }
+    let size = size-trapped c in
+    let word = headed (trap size .before .before) in
+    record { low = omega (arith, size .sized2 .ensures .1, word .word .ensures .next-is) }
 
 trapped-requires : tie.Need-trapped-requires
 trapped-requires c κs =
-    let size = c .before .before .before .before .before .before .before .before .sized2 .ensures .1
-    in
+    let verdict = c .before .before .before in
+    let size = size-trapped (verdict .before) in
+    let word = headed (trap size .before .before) in
     omega (
       arith,
-      size,
-      c .before .before .before .word3 .ensures .next-is,
-      c .before .before
-          .before .before .before .before .before .before .before .before .before .before .before
-          .before .before .word .ensures .next-is,
+      size .sized2 .ensures .1,
+      verdict .word3 .ensures .next-is,
+      word .word .ensures .next-is,
     )
 
 returns : tie.Need-returns
 unfolding reportLines
 returns c =
-    let refused = puts-last _ (c .before .before .refused .ensures) in
-    rw (c .before .before .before .before .before .answer .given .1) (puts-written
-    (puts-line heading _ (c .before .before .before .before .before .before .before .before
-    .before .word .ensures) refused))
+    let refused = c .before .before in
+    let found = refused .before .before .before in
+    let word = headed (found .before .before) in
+    rw (found .found .given .1) (puts-written (puts-line heading _ (word .word .ensures)
+    (puts-last _ (refused .refused .ensures))))
 
 returns-2 : tie.Need-returns-2
 unfolding reportLines
 returns-2 c =
-    let verdict = puts-last soundLine (c .before .before .word2 .ensures) in
-    let size = puts-lines (sizeLines _) _ (c .before .before .before .before .before .before .before
-    .sized .ensures .0) verdict in
-    rw (c .before .before .before .before .before .before .before .before .before .before .answer2
-    .given .1) (puts-written (puts-line heading _ (c .before .before .before .before .before
-    .before .before .before .before .before .before .before .before .before .word .ensures)
-    size))
+    let verdict = c .before .before in
+    let size = size-sound (verdict .before) in
+    let found = sound size in
+    let word = headed (found .before .before) in
+    let lines = puts-lines (sizeLines _ _) _ (size .sized .ensures .0)
+    (puts-last soundLine (verdict .word2 .ensures)) in
+    rw (found .found2 .given .1) (puts-written (puts-line heading _ (word .word .ensures) lines))
 
 returns-3 : tie.Need-returns-3
 unfolding reportLines
 returns-3 c =
-    let verdict = puts-line trappedLine _ (c .before .before .before .before .before .before .word3
-    .ensures) (c .before .before .trapped .ensures) in
-    let size = puts-lines (sizeLines _) _ (c .before .before .before .before .before .before .before
-    .before .before .before .before .sized2 .ensures .0) verdict in
-    rw (c .before .before .before .before .before .before .before .before .before .before .before
-    .before .before .before .answer3 .given .1) (puts-written (puts-line heading _
-    (c .before .before .before .before .before .before .before .before .before .before .before
-    .before .before .before .before .before .before .before .word .ensures) size))
+    let trapped = c .before .before in
+    let verdict = trapped .before .before .before .before in
+    let size = size-trapped (verdict .before) in
+    let found = trap size in
+    let word = headed (found .before .before) in
+    let lines = puts-lines (sizeLines _ _) _ (size .sized2 .ensures .0)
+    (puts-line trappedLine _ (verdict .word3 .ensures) (trapped .trapped .ensures)) in
+    rw (found .found3 .given .1) (puts-written (puts-line heading _ (word .word .ensures) lines))
 
 pub write-spec : {M : Type 1} → statement M
 write-spec =

@@ -5,7 +5,7 @@ use mathlib.Core.Path.{_≡_}
 use lib.ListN.{length}
 use lib.Seq.{sets}
 
--- What a function that puts bytes into it from a place on answers, the place behind them, and
+-- What a function that puts bytes into it from a place on answers, the place after them, and
 -- leaves.
 pub record Puts (at : ℕ) (bytes buffer : List ℕ) (next : ℕ) (exit : List ℕ) : Type 0 where
   pub next-is : next ≡ at + length bytes

@@ -7,7 +7,7 @@ use borrow.Fn.PlainCycle.{Measures, is, falls, and}
 use native.Mathlib.Omega.{arith}
 use Rattle.text.specs.Bounds.{decimal as decimalOf}
 use Rattle.text.proofs.Decimals.{decimal-few, decimal-more}
-use Rattle.report.proofs.Puts.{puts-append, countable-front, countable-behind}
+use Rattle.report.proofs.Puts.{puts-append, countable-front, countable-after}
 use Rattle.report.proofs.put.byte.Reads as byte
 use Rattle.report.proofs.put.decimal.Reads as decimal
 use Rattle.report.proofs.put.decimal.Kinds as kinds
@@ -49,7 +49,7 @@ module _ (t : ℕ) where
 
   byte-requires-2 : lts.Need-byte-requires-2 (calls t) (decimal-at t) decimal.Post
   byte-requires-2 c κs =
-      countable-behind (c .before .before .before .decimal .ensures) _
+      countable-after (c .before .before .before .decimal .ensures) _
       (rw (decimal-more (c .before .before .before .before .before .before .before .args .n)
       (c .before .before .before .before .before .if1 .left)) at
       (c .before .before .before .before .before .before .before .pre .1))

@@ -1,4 +1,4 @@
--- `put::word` meets its contract. The invariant: what is left of the word, put behind what is done,
+-- `put::word` meets its contract. The invariant: what is left of the word, put after what is done,
 -- makes the whole. The measure: how many bytes are left. Assumes nothing.
 use Prim.Native.Nat.{ℕ, _+_, _-_}
 use borrow.Author.Needs.{needs}

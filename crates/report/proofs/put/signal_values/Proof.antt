@@ -1,6 +1,6 @@
--- `put::values` meets its contract. The invariant: the values from signal k on, put behind what is
--- done, make the whole, and `rest` is the letter without its first k signals. The measure: how many
--- signals are left. Assumes nothing.
+-- `put::signal_values` meets its contract. The invariant: the values from signal k on, put after
+-- what is done, make the whole, and `rest` is the letter without its first k signals. The measure:
+-- how many signals are left. Assumes nothing.
 use Prim.Native.Nat.{ℕ, suc, _+_, _-_, _/_, _%_, _^_, _<_, _≤_}
 use borrow.Author.Needs.{needs}
 use native.Mathlib.Numerals.{add-one}
@@ -11,15 +11,15 @@ use lib.ListN.{set}
 use lib.Pow.{shr-shr}
 use Rattle.letters.specs.Letter.{bitAt, signalOn, bit}
 use Rattle.letters.proofs.Bits.{bit-eqb}
-use Rattle.report.specs.Report.{values}
+use Rattle.report.specs.Report.{signalValues}
 use Rattle.report.proofs.Puts.{Putting, putting-start, putting-byte, putting-end}
 use Rattle.report.proofs.Puts.{putting-length}
-use Rattle.report.proofs.put.values.Statement.{statement}
-use Rattle.report.proofs.put.values.Tie as tie
+use Rattle.report.proofs.put.signal_values.Statement.{statement}
+use Rattle.report.proofs.put.signal_values.Tie as tie
 
 record Done (out₀ : List ℕ) (at signals letter : ℕ) (out : List ℕ) (rest k : ℕ) : Type 0 where
-  pub putting :
-      Putting at (values signals 0 letter) out₀ (at + k) (values (signals - k) k letter) out
+  pub putting : Putting at (signalValues signals 0 letter) out₀ (at + k)
+      (signalValues (signals - k) k letter) out
   pub rest-is : rest ≡ letter / 2 ^ k
   pub few : k ≤ signals
 
@@ -40,15 +40,15 @@ module _ {out₀ : List ℕ} {at signals letter : ℕ} {out : List ℕ} {rest k 
   unfolding bitAt
   value = rw (done .rest-is) (ap (_+_ 48) (bit-eqb (letter / 2 ^ k % 2) (omega arith)))
 
-  left-values : k < signals → values (signals - k) k letter
-      ≡ (48 + rest % 2) ∷ values (signals - (k + 1)) (k + 1) letter
-  unfolding values
+  left-values : k < signals → signalValues (signals - k) k letter
+      ≡ (48 + rest % 2) ∷ signalValues (signals - (k + 1)) (k + 1) letter
+  unfolding signalValues
   left-values h =
       let more : signals - k ≡ suc (signals - (k + 1)) = omega arith in
       rw (more, add-one k, value)
 
-  none-left : signals ≤ k → values (signals - k) k letter ≡ []
-  unfolding values
+  none-left : signals ≤ k → signalValues (signals - k) k letter ≡ []
+  unfolding signalValues
   none-left h = let none : signals - k ≡ 0 = omega arith in rw none
 
   done-next : {exit : List ℕ} → k < signals → exit ≡ set out (at + k) (48 + rest % 2)
@@ -113,8 +113,8 @@ returns : tie.Need-returns Inv-loop μ-loop
 returns c = putting-end (c .before .loop .inv .putting) (none-left (c .before .loop .inv)
     (c .loop-test .left))
 
-pub values-spec : {M : Type 1} → statement M
-values-spec =
+pub signal-values-spec : {M : Type 1} → statement M
+signal-values-spec =
     tie.close (tie.spec
     Inv-loop μ-loop loop-holds cast-store add-store add-store-2 store-requires add-k loop-less
     loop-again cast-result add-result same-length returns)

@@ -1,0 +1,110 @@
+-- How long a report can be where the trace buffer is no longer than the most room. Assumes nothing.
+use Prim.Native.Nat.{ℕ, _≤_, _<_}
+use native.Mathlib.Omega.{arith}
+use mathlib.Core.Bool.{Bool, true, false, cond}
+use mathlib.Core.List.{List}
+use mathlib.Core.Path.{_≡_, refl}
+use lib.Dec.{leb}
+use lib.ListN.{length, length-replicate}
+use borrow.Author.Tests.{leb-true}
+use Rattle.table.specs.Limits.{mostRows}
+use Rattle.table.specs.Valid.{tableFits}
+use Rattle.table.specs.declared.Outcome.the-variants.{Accepted}
+use Rattle.table.specs.declared.Table.{Table}
+use Rattle.table.proofs.Laws.{tableFits-count, tableFits-signals}
+use Rattle.traces.specs.inner.Answer.{Answer}
+use Rattle.traces.specs.inner.Answer.Answer.{tooMany, sound, trapped}
+use Rattle.traces.proofs.Answer.{Within, answer-within}
+use Rattle.reader.specs.inner.File.{readAnswer}
+use Rattle.reader.proofs.Accepted.{Told, taken, turned, read-told}
+use Rattle.reader.proofs.Fits.{file-fits}
+use Rattle.scratch.specs.Room.{mostRoom}
+use Rattle.scratch.specs.inner.Same.{samePhases}
+use Rattle.verdict.specs.declared.Found.the-variants.{Refused as FoundRefused}
+use Rattle.verdict.specs.Found.{valuesOf, refusedFound, trappedFound}
+use Rattle.search.specs.Lent.{Lent, Searched, roomOf, systemOf, traced}
+use Rattle.search.specs.inner.Computed.{judged, searchAnswer}
+use Rattle.report.proofs.Lengths.{FewDigits, report-short}
+use Rattle.checker.specs.FileReport.{afterReading, checkAnswer, programLent, mostReport}
+
+refused-few : (rows number line : ℕ) → rows ≤ mostRows → number < 1000 → line < 1000
+    → FewDigits rows mostRoom (valuesOf (FoundRefused (record { number = number; line = line })))
+refused-few rows number line r m n = record {
+  rules = omega arith;
+  number = m;
+  line = n;
+  short = omega arith;
+  lost = omega arith;
+  count = omega arith;
+}
+
+-- What the search finds has numbers of few digits, and a trace that its buffer holds.
+judged-few : (rows : ℕ) → rows ≤ mostRows → (room : ℕ) → room ≤ mostRoom → (a : Answer)
+    → Within room a → (lent full : Lent) → length (lent .trace) ≤ mostRoom
+    → FewDigits rows mostRoom (valuesOf (judged a lent full .found))
+unfolding judged
+judged-few rows r room h tooMany w lent full short =
+    refused-few rows 20 0 r (omega arith) (omega arith)
+judged-few rows r room h (sound n) w lent full short = record {
+  rules = omega arith;
+  number = omega arith;
+  line = omega arith;
+  short = omega arith;
+  lost = omega arith;
+  count = omega arith;
+}
+judged-few rows r room h (trapped n t k) w lent full short =
+    go (leb (length t) (length (lent .trace))) refl
+  where
+    go : (c : Bool) → leb (length t) (length (lent .trace)) ≡ c
+        → FewDigits rows mostRoom (valuesOf (cond {A = Searched} c
+        (record { found = trappedFound n t k; lent = traced t full })
+        (record { found = refusedFound 21; lent = full }) .found))
+    go true e =
+        let fits = leb-true (length t) (length (lent .trace)) e in
+        record {
+          rules = omega arith;
+          number = omega arith;
+          line = omega arith;
+          short = omega arith;
+          lost = omega (arith, w .1);
+          count = omega (arith, w .0);
+        }
+    go false e = refused-few rows 21 0 r (omega arith) (omega arith)
+
+room-most : (lent : Lent) → roomOf lent ≤ mostRoom
+unfolding roomOf
+room-most lent = omega arith
+
+module _ (table : Table) (lent : Lent) (short : length (lent .trace) ≤ mostRoom) where
+  searched-few : tableFits table ≡ true
+      → FewDigits (table .count) mostRoom (valuesOf (searchAnswer table lent .found))
+  unfolding searchAnswer
+  searched-few fits =
+      rw fits (judged-few (table .count) (tableFits-count table fits .1) (roomOf lent)
+      (room-most lent) _ (answer-within (systemOf table) (roomOf lent) samePhases) lent _ short)
+
+  accepted-short : tableFits table ≡ true
+      → length (afterReading Accepted table lent .report) ≤ mostReport
+  accepted-short fits =
+      let searched = searchAnswer table lent in
+      let few = report-short (table .count) (table .signals) mostRoom (searched .lent .trace)
+      (tableFits-signals table fits .1) (omega arith) (searched .found) (searched-few fits) in
+      omega (arith, few)
+
+checked-short : (bytes : List ℕ) (lent : Lent) → length (lent .trace) ≤ mostRoom
+    → length (checkAnswer bytes lent .report) ≤ mostReport
+unfolding checkAnswer
+checked-short bytes lent short = go (read-told bytes)
+  where
+    go : Told bytes (readAnswer bytes) → length (checkAnswer bytes lent .report) ≤ mostReport
+    go (taken table file e) = rw e (accepted-short table lent short (file-fits bytes table file))
+    go (turned number line small low e) =
+        let found = FoundRefused (record { number = number; line = line }) in
+        let few = report-short 0 0 mostRoom (lent .trace) (omega arith) (omega arith) found
+        (refused-few 0 number line (omega arith) (omega arith) (omega arith)) in
+        rw e (omega (arith, few))
+
+pub program-short : (bytes : List ℕ)
+    → length (checkAnswer bytes programLent .report) ≤ mostReport
+program-short bytes = checked-short bytes programLent (rw length-replicate (omega arith))

@@ -1,0 +1,218 @@
+-- Different findings give different reports: where the bytes are the same, so are the lines, and
+-- with them what is found, its trace and the number of rows. Assumes nothing.
+use Prim.Native.Nat.{ℕ, zero, suc, _+_, _<_, _≤_}
+use borrow.Author.Tests.{ltb-true, ne-eqb}
+use native.Mathlib.Decide.{decLt}
+use native.Mathlib.Omega.{arith}
+use mathlib.Core.Bool.{true}
+use mathlib.Core.List.{List, [], _∷_, _++_, append-assoc, append-cancel-left}
+use mathlib.Core.List.{head-eq-of-cons-eq, tail-eq-of-cons-eq}
+use mathlib.Core.Path.{_≡_, refl, sym, ap, ap₂, _∙_}
+use lib.ListN.{length, getD, take, drop}
+use lib.Seq.{length-take-le}
+use Rattle.letters.specs.Letter.{signalOn, bit, letters, letterFits}
+use Rattle.letters.specs.Lists.{every}
+use Rattle.letters.proofs.Bits.{bit-injective}
+use Rattle.letters.proofs.Lists.{and-left, and-right}
+use Rattle.letters.proofs.Sets.{set-ext}
+use Rattle.table.specs.declared.Refusal.{Refusal}
+use Rattle.text.specs.Bounds.{decimal}
+use Rattle.text.specs.Lines.{LF, count, Free, none, and}
+use Rattle.text.specs.inner.Cut.{lines}
+use Rattle.text.proofs.Bounds.{decimal-free}
+use Rattle.text.proofs.Decimals.{decimal-injective}
+use Rattle.text.proofs.Joins.{lines-ended}
+use Rattle.text.proofs.Splits.{count-append, append-injective}
+use Rattle.verdict.specs.declared.Found.{Found}
+use Rattle.verdict.specs.declared.Found.the-variants.{Refused, Sound, Trapped}
+use Rattle.verdict.specs.declared.Summary.{Summary}
+use Rattle.verdict.specs.declared.Trap.{Trap}
+use Rattle.verdict.specs.Found.{Verdict, valuesOf}
+use Rattle.report.specs.Report.{refusedWord, lineWord, rulesWord, countWord, soundLine}
+use Rattle.report.specs.Report.{tickWord, lostWord, refusedLine, sizeLines, signalValues}
+use Rattle.report.specs.Report.{trappedLine, tickLine, tickLines, trapLines}
+use Rattle.report.specs.Report.{reportLines, reportBytes, TraceInBuffer}
+
+-- No line has an LF in it.
+numbered-free : (word : List ℕ) (n : ℕ) → count LF word ≡ 0 → count LF (word ++ decimal n) ≡ 0
+numbered-free word n h = count-append LF word (decimal n) ∙ rw (h, decimal-free LF refl n)
+
+refused-free : (m n : ℕ) → count LF (refusedLine m n) ≡ 0
+unfolding count
+refused-free m n =
+    numbered-free (refusedWord ++ decimal m ++ lineWord) n
+    (count-append LF (refusedWord ++ decimal m) lineWord ∙ rw (numbered-free refusedWord m refl))
+
+sizes-free : (rows n : ℕ) (more : List (List ℕ)) → Free LF more
+    → Free LF (sizeLines rows n ++ more)
+unfolding count
+sizes-free rows n more f =
+    and (numbered-free rulesWord rows refl) (and (numbered-free countWord n refl) f)
+
+values-free : (n k letter : ℕ) → count LF (signalValues n k letter) ≡ 0
+unfolding signalValues count
+values-free zero k letter = refl
+values-free (suc n) k letter =
+    rw (ne-eqb (48 + bit (signalOn letter k)) LF (λ e. omega arith)) (values-free n (suc k) letter)
+
+module _ (signals : ℕ) where
+  tick-free : (tick letter : ℕ) → count LF (tickLine signals tick letter) ≡ 0
+  unfolding count
+  tick-free tick letter =
+      count-append LF (tickWord ++ decimal tick) (32 ∷ signalValues signals 0 letter)
+      ∙ rw (numbered-free tickWord tick refl, values-free signals 0 letter)
+
+  ticks-free : (tick : ℕ) (w : List ℕ) (more : List (List ℕ)) → Free LF more
+      → Free LF (tickLines signals tick w ++ more)
+  unfolding tickLines
+  ticks-free tick [] more f = f
+  ticks-free tick (letter ∷ w) more f =
+      and (tick-free tick letter) (ticks-free (suc tick) w more f)
+
+  report-free : (rows : ℕ) (buffer : List ℕ) (found : Found)
+      → Free LF (reportLines rows signals buffer found)
+  unfolding reportLines count
+  report-free rows buffer (Refused r) = and refl (and (refused-free (r .number) (r .line)) none)
+  report-free rows buffer (Sound summary) =
+      and refl (sizes-free rows (summary .count) (soundLine ∷ []) (and refl none))
+  report-free rows buffer (Trapped summary trap) =
+      let lost = lostWord ++ decimal (trap .lost) in
+      and refl (sizes-free rows (summary .count) (trappedLine ∷ trapLines signals buffer trap)
+      (and refl (ticks-free 1 (take (trap .length) buffer) (lost ∷ [])
+      (and (numbered-free lostWord (trap .lost) refl) none))))
+
+-- Byte k of line i.
+abbrev byteAt : ℕ → ℕ → List (List ℕ) → ℕ
+byteAt i k ls = getD (getD ls i []) k 0
+
+-- Lines that are the same are of the same numbers.
+numbered-injective : (word : List ℕ) (m n : ℕ) → word ++ decimal m ≡ word ++ decimal n → m ≡ n
+numbered-injective word m n e =
+    decimal-injective m n (append-cancel-left word (decimal m) (decimal n) e)
+
+refused-injective : (r s : Refusal)
+    → refusedLine (r .number) (r .line) ≡ refusedLine (s .number) (s .line) → r ≡ s
+refused-injective r s e =
+    let rest = drop 1 lineWord in
+    let parts = append-injective 32 (decimal (r .number)) (rest ++ decimal (r .line))
+    (decimal (s .number)) (rest ++ decimal (s .line)) (decimal-free 32 refl (r .number))
+    (decimal-free 32 refl (s .number)) (simp append-assoc at (ap (drop 8) e)) in
+    ap₂ {C = Refusal} (λ m n. record { number = m; line = n })
+    (decimal-injective (r .number) (s .number) (parts .0))
+    (numbered-injective rest (r .line) (s .line) (parts .1))
+
+sizes-injective : (rows rows′ m n : ℕ) (xs ys : List (List ℕ))
+    → sizeLines rows m ++ xs ≡ sizeLines rows′ n ++ ys → (rows ≡ rows′) × (m ≡ n) × (xs ≡ ys)
+sizes-injective rows rows′ m n xs ys e =
+    let others = tail-eq-of-cons-eq e in (
+      numbered-injective rulesWord rows rows′ (head-eq-of-cons-eq e),
+      numbered-injective countWord m n (head-eq-of-cons-eq others),
+      tail-eq-of-cons-eq others,
+    )
+
+values-injective : (n k x y : ℕ) → signalValues n k x ≡ signalValues n k y
+    → (l : ℕ) → k ≤ l → l < k + n → signalOn x l ≡ signalOn y l
+unfolding signalValues
+values-injective zero k x y e l low high = absurd (omega arith)
+values-injective (suc n) k x y e l low high =
+    go (decLt k l) (values-injective n (suc k) x y (tail-eq-of-cons-eq e) l)
+  where
+    go : Dec (k < l) → (suc k ≤ l → l < suc k + n → signalOn x l ≡ signalOn y l)
+        → signalOn x l ≡ signalOn y l
+    go (yes later) ih = ih later (omega arith)
+    go (no here) ih =
+        let same : l ≡ k = omega arith in
+        let bits : bit (signalOn x k) ≡ bit (signalOn y k) =
+        omega (arith, head-eq-of-cons-eq e) in
+        rw same (bit-injective (signalOn x k) (signalOn y k) bits)
+
+trap-injective : (s t : Trap) (b c : List ℕ) → s .length ≤ length b → t .length ≤ length c
+    → (take (s .length) b ≡ take (t .length) c) × (s .lost ≡ t .lost) → s ≡ t
+trap-injective s t b c h g same =
+    ap₂ {C = Trap} (λ n m. record { length = n; lost = m })
+    (sym (length-take-le (s .length) b h) ∙ ap length (same .0) ∙ length-take-le (t .length) c g)
+    (same .1)
+
+module _ (signals : ℕ) where
+  tick-injective : (tick x y : ℕ) → letterFits signals x ≡ true → letterFits signals y ≡ true
+      → tickLine signals tick x ≡ tickLine signals tick y → x ≡ y
+  tick-injective tick x y f g e =
+      let same = tail-eq-of-cons-eq (append-cancel-left (tickWord ++ decimal tick)
+      (32 ∷ signalValues signals 0 x) (32 ∷ signalValues signals 0 y) e) in
+      set-ext signals x y (ltb-true x (letters signals) f) (ltb-true y (letters signals) g)
+      (λ l h. values-injective signals 0 x y same l (omega arith) (omega arith))
+
+  trace-injective : (m n tick : ℕ) (v w : List ℕ) → every (letterFits signals) v ≡ true
+      → every (letterFits signals) w ≡ true
+      → tickLines signals tick v ++ (lostWord ++ decimal m) ∷ []
+      ≡ tickLines signals tick w ++ (lostWord ++ decimal n) ∷ [] → (v ≡ w) × (m ≡ n)
+  unfolding tickLines every
+  trace-injective m n tick [] [] f g e =
+      (refl, numbered-injective lostWord m n (head-eq-of-cons-eq e))
+  trace-injective m n tick [] (y ∷ w) f g e = absurd (omega (arith, ap (byteAt 0 0) e))
+  trace-injective m n tick (x ∷ v) [] f g e = absurd (omega (arith, ap (byteAt 0 0) e))
+  trace-injective m n tick (x ∷ v) (y ∷ w) f g e =
+      let fits = letterFits signals in
+      let first = tick-injective tick x y (and-left (fits x) (every fits v) f)
+      (and-left (fits y) (every fits w) g) (head-eq-of-cons-eq e) in
+      let others = trace-injective m n (suc tick) v w (and-right (fits x) (every fits v) f)
+      (and-right (fits y) (every fits w) g) (tail-eq-of-cons-eq e) in
+      (ap₂ _∷_ first (others .0), others .1)
+
+-- What two reports show is the same: what is found, the trace and, under a verdict, the number of
+-- rows.
+pub record SameShown (rows rows′ : ℕ) (one other : Found) (b c : List ℕ) : Type 0 where
+  pub found : one ≡ other
+  pub trace : take (valuesOf one .length) b ≡ take (valuesOf other .length) c
+  pub size : (valuesOf one .verdict ≡ Verdict.absent → ⊥) → rows ≡ rows′
+
+summary-same : {m n : Summary} → m .count ≡ n .count → m ≡ n
+summary-same e = λ i. record { count = e i }
+
+module _ (signals rows rows′ : ℕ) where
+  lines-injective : (one other : Found) (b c : List ℕ) → TraceInBuffer signals b one
+      → TraceInBuffer signals c other
+      → reportLines rows signals b one ≡ reportLines rows′ signals c other
+      → SameShown rows rows′ one other b c
+  unfolding reportLines
+  lines-injective (Refused r) (Refused s) b c p q e = record {
+    found = ap Refused (refused-injective r s (head-eq-of-cons-eq (tail-eq-of-cons-eq e)));
+    trace = refl;
+    size = λ verdict. absurd (verdict refl);
+  }
+  lines-injective (Refused r) (Sound n) b c p q e = absurd (omega (arith, ap (byteAt 1 1) e))
+  lines-injective (Refused r) (Trapped n t) b c p q e = absurd (omega (arith, ap (byteAt 1 1) e))
+  lines-injective (Sound m) (Refused s) b c p q e = absurd (omega (arith, ap (byteAt 1 1) e))
+  lines-injective (Sound m) (Sound n) b c p q e =
+      let sizes = sizes-injective rows rows′ (m .count) (n .count) (soundLine ∷ [])
+      (soundLine ∷ []) (tail-eq-of-cons-eq e) in
+      record {
+        found = ap Sound (summary-same (sizes .1));
+        trace = refl;
+        size = λ verdict. sizes .0;
+      }
+  lines-injective (Sound m) (Trapped n t) b c p q e = absurd (omega (arith, ap (byteAt 3 8) e))
+  lines-injective (Trapped m s) (Refused r) b c p q e = absurd (omega (arith, ap (byteAt 1 1) e))
+  lines-injective (Trapped m s) (Sound n) b c p q e = absurd (omega (arith, ap (byteAt 3 8) e))
+  lines-injective (Trapped m s) (Trapped n t) b c p q e =
+      let sizes = sizes-injective rows rows′ (m .count) (n .count)
+      (trappedLine ∷ trapLines signals b s) (trappedLine ∷ trapLines signals c t)
+      (tail-eq-of-cons-eq e) in
+      let same = trace-injective signals (s .lost) (t .lost) 1 (take (s .length) b)
+      (take (t .length) c) (p .letters) (q .letters) (tail-eq-of-cons-eq (sizes .2)) in
+      record {
+        found = ap₂ Trapped (summary-same (sizes .1))
+            (trap-injective s t b c (p .whole) (q .whole) same);
+        trace = same .0;
+        size = λ verdict. sizes .0;
+      }
+
+  pub bytes-injective : (one other : Found) (b c : List ℕ) → TraceInBuffer signals b one
+      → TraceInBuffer signals c other
+      → reportBytes rows signals b one ≡ reportBytes rows′ signals c other
+      → SameShown rows rows′ one other b c
+  bytes-injective one other b c p q same =
+      lines-injective one other b c p q
+      (sym (lines-ended (reportLines rows signals b one) (report-free signals rows b one))
+      ∙ ap lines same
+      ∙ lines-ended (reportLines rows′ signals c other) (report-free signals rows′ c other))
