@@ -24,6 +24,7 @@ use Rattle.verdict.specs.declared.Found.the-variants.{Refused as FoundRefused}
 use Rattle.verdict.specs.Found.{valuesOf, refusedFound, trappedFound}
 use Rattle.search.specs.Lent.{Lent, Searched, roomOf, systemOf, traced}
 use Rattle.search.specs.inner.Computed.{judged, searchAnswer}
+use Rattle.search.proofs.Room.{room-most}
 use Rattle.report.proofs.Lengths.{FewDigits, report-short}
 use Rattle.checker.specs.FileReport.{afterReading, checkAnswer, programLent, mostReport}
 
@@ -71,10 +72,6 @@ judged-few rows r room h (trapped n t k) w lent full short =
           count = omega (arith, w .0);
         }
     go false e = refused-few rows 21 0 r (omega arith) (omega arith)
-
-room-most : (lent : Lent) → roomOf lent ≤ mostRoom
-unfolding roomOf
-room-most lent = omega arith
 
 module _ (table : Table) (lent : Lent) (short : length (lent .trace) ≤ mostRoom) where
   searched-few : tableFits table ≡ true

@@ -19,7 +19,6 @@ use Rattle.step.specs.declared.Phase.the-variants.{Waiting}
 use Rattle.step.specs.Tick.{rowSystem}
 use Rattle.watcher.specs.declared.Watch.{Watch}
 use Rattle.watcher.specs.Watch.{phasesOf, startWatch}
-use Rattle.table.specs.Refusal.{numberOf}
 use Rattle.text.specs.Bounds.{decimal}
 use Rattle.text.specs.Lines.{ended}
 use Rattle.reader.specs.Reading.{accepted, refusedFile}
@@ -27,33 +26,34 @@ use Rattle.reader.specs.Grammar.{IsFile}
 use Rattle.reader.specs.Right.{RightReading}
 use Rattle.reader.specs.inner.File.{readAnswer}
 use Rattle.reader.specs.declared.Reading.{Reading as FileReading}
-use Rattle.reader.proofs.Found as Found
-use Rattle.reader.proofs.Only as Only
-use Rattle.search.specs.Answer.{Lent, Searched, roomOf, systemOf, traced, soundFound, trappedFound}
+use Rattle.reader.proofs.Found as ReadingFound
+use Rattle.reader.proofs.Only as ReadingOnly
+use Rattle.verdict.specs.Found.{Verdict, valuesOf, soundFound, trappedFound}
+use Rattle.search.specs.Lent.{Lent, Searched, roomOf, systemOf, traced}
 use Rattle.search.specs.inner.Computed.{searchAnswer}
-use Rattle.search.specs.declared.Verdict.the-variants.{Sound as SaysSound, Trapped as SaysTrapped}
 use Rattle.demands.specs.Watching.{recordAfter, Accepted}
-use Rattle.demands.specs.Searching.{Dead, Shown, CanGoOn, Fit, Entered, RightAnswer}
-use Rattle.demands.specs.Searching.{SameLengths, SameScratch}
+use Rattle.demands.specs.Searching.{searchValues, Dead, EarliestDead, CanGoOn, Fit}
+use Rattle.demands.specs.Searching.{Entered, RightAnswer, SameLengths, SameScratch}
 use Rattle.report.specs.Report.{heading, refusedLine, sizeLines, soundLine, trappedLine, tickLines}
 use Rattle.report.specs.Report.{lostWord}
-use Rattle.checker.specs.Answer.{Checked, sizeOf, checkAnswer}
+use Rattle.checker.specs.FileReport.{FileReport, checkAnswer}
 use Rattle.demands.proofs.Reading as Reading
 use Rattle.demands.proofs.Watching as Watching
 use Rattle.demands.proofs.Searching as Searching
 use Rattle.demands.proofs.Reporting as Reporting
 use Rattle.demands.proofs.WatchLaws as WatchLaws
+use Rattle.demands.proofs.Answers as Answers
 use Rattle.demands.proofs.SearchLaws as SearchLaws
-use Rattle.demands.proofs.Alike as Alike
+use Rattle.demands.proofs.SameInput as SameInput
 use Rattle.demands.proofs.Described as Described
 
 -- Demand 1, for the reader: any bytes have one of the answers of `RightReading`, a table or a
 -- refusal by the first fitting number, and what it says is so; and no other answer says what is so.
 pub read-answered : (bytes : List ℕ) → RightReading bytes (readAnswer bytes)
-read-answered = Found.read-answered
+read-answered = ReadingFound.read-answered
 
 pub read-only : (bytes : List ℕ) (r : FileReading) → RightReading bytes r → readAnswer bytes ≡ r
-read-only = Only.read-only
+read-only = ReadingOnly.read-only
 
 -- Demand 2: "The reader accepts exactly the tables that document 01 describes, keeps each name and
 -- bound and gives each condition its meaning" (`IsFile`),
@@ -80,18 +80,18 @@ from-start = Watching.from-start
 -- `RightAnswer`, and what it says is so; and no other answer says what is so.
 module _ (table : Table) (lent : Lent) where
   pub search-answered : RightAnswer table lent (searchAnswer table lent)
-  search-answered = Described.described table lent (SearchLaws.answered table lent)
+  search-answered = Described.described table lent (Answers.one-of-five table lent)
 
   pub search-only : (a : Searched) → RightAnswer table lent a → searchAnswer table lent ≡ a
-  search-only a right = SearchLaws.answer-is table lent (Described.computed table lent right)
+  search-only a right = Answers.answer-is table lent (Described.computed table lent right)
 
   -- "If the states don't fit, and only then, the search says so."
   pub room-exactly : tableFits table ≡ true
-      → (numberOf (searchAnswer table lent .found .outcome) ≡ 20)
+      → (searchValues table lent .number ≡ 20)
       ↔ ReachedMany (systemOf table) (suc (roomOf lent))
   room-exactly passes = (
     Searching.says-20 table lent,
-    λ many. ap (λ (a : Searched). numberOf (a .found .outcome))
+    λ many. ap (λ (a : Searched). valuesOf (a .found) .number)
         (Searching.refused-20 table lent passes many),
   )
 
@@ -101,30 +101,30 @@ module _ (table : Table) (lent : Lent) (n : ℕ) (fit : Fit table lent n) where
   -- "trapped exactly when some unbroken trace has a number of ticks after which every extension is
   -- broken": it is shown, or refused with 21;
   pub trapped-exactly : (
-      (searchAnswer table lent .found .verdict ≡ SaysTrapped)
-      ⊎ (numberOf (searchAnswer table lent .found .outcome) ≡ 21))
+      (searchValues table lent .verdict ≡ Verdict.saysTrapped)
+      ⊎ (searchValues table lent .number ≡ 21))
       ↔ ((w : List ℕ) × (k : ℕ) × Dead (systemOf table) w k)
   trapped-exactly = SearchLaws.trapped-exactly table lent n fit
 
   -- "sound exactly when every unbroken trace can go on unbroken for every number of ticks."
-  pub sound-exactly : (searchAnswer table lent .found .verdict ≡ SaysSound)
+  pub sound-exactly : (searchValues table lent .verdict ≡ Verdict.saysSound)
       ↔ CanGoOn (systemOf table)
   sound-exactly = (
     λ says. Searching.sound-means (systemOf table) .0 (Searching.says-sound table lent n fit says),
-    λ on. ap (λ (a : Searched). a .found .verdict) (Searching.sound-answer table lent n fit
-        (Searching.sound-means (systemOf table) .1 on)),
+    λ on. ap (λ (a : Searched). valuesOf (a .found) .verdict)
+        (Searching.sound-answer table lent n fit (Searching.sound-means (systemOf table) .1 on)),
   )
 
   -- "Trapped shows such a trace: every other such trace is longer, or as long with a larger letter
   -- where the two first differ. With it goes one such number, and every other for that trace is
   -- larger. Both verdicts give the count of the states reached."
-  pub earliest-shown : (w : List ℕ) (k : ℕ) → Shown (systemOf table) w k
+  pub earliest-shown : (w : List ℕ) (k : ℕ) → EarliestDead (systemOf table) w k
       → length w ≤ length (lent .trace)
       → (held : Lent) × Entered table n lent held
       × (searchAnswer table lent ≡ record { found = trappedFound n w k; lent = traced w held })
   earliest-shown w k shown short = (
     _,
-    Described.entered table lent n fit,
+    Described.entries-entered table lent n fit,
     Searching.trapped-answer table lent n fit w k
         (Searching.trapped-means (systemOf table) w k .1 shown) short,
   )
@@ -134,13 +134,13 @@ module _ (table : Table) (lent : Lent) (n : ℕ) (fit : Fit table lent n) where
       × (searchAnswer table lent ≡ record { found = soundFound n; lent = held })
   sound-counted on = (
     _,
-    Described.entered table lent n fit,
+    Described.entries-entered table lent n fit,
     Searching.sound-answer table lent n fit (Searching.sound-means (systemOf table) .1 on),
   )
 
   -- "A trapped table is refused instead exactly when that trace is longer than its buffer."
-  pub buffer-exactly : (w : List ℕ) (k : ℕ) → Shown (systemOf table) w k
-      → (numberOf (searchAnswer table lent .found .outcome) ≡ 21)
+  pub buffer-exactly : (w : List ℕ) (k : ℕ) → EarliestDead (systemOf table) w k
+      → (searchValues table lent .number ≡ 21)
       ↔ (length (lent .trace) < length w)
   buffer-exactly w k shown =
       Searching.refused-exactly table lent n fit w k
@@ -149,11 +149,11 @@ module _ (table : Table) (lent : Lent) (n : ℕ) (fit : Fit table lent n) where
 -- "Whatever scratch and trace buffer held before": only their lengths count.
 module _ (table : Table) (one other : Lent) (lengths : SameLengths one other) where
   pub same-found : searchAnswer table one .found ≡ searchAnswer table other .found
-  same-found = Alike.same-found table one other lengths
+  same-found = SameInput.same-found table one other lengths
 
   pub same-scratch : tableFits table ≡ true
       → SameScratch (searchAnswer table one .lent) (searchAnswer table other .lent)
-  same-scratch = Alike.same-scratch table one other lengths
+  same-scratch = SameInput.same-scratch table one other lengths
 
 -- "The signals and rows alone choose the verdict", with its trace, lost number and count, wherever
 -- the states and the trace fit.
@@ -163,11 +163,11 @@ module _ (one other : Table) (lent held : Lent) (n : ℕ) (fit : Fit one lent n)
     (short : (w : List ℕ) (k : ℕ) → Trapped (systemOf one) w k
     → (length w ≤ length (lent .trace)) × (length w ≤ length (held .trace))) where
   pub rows-choose : searchAnswer one lent .found ≡ searchAnswer other held .found
-  rows-choose = Alike.rows-choose one other lent held n fit passes signals rows room short
+  rows-choose = SameInput.rows-choose one other lent held n fit passes signals rows room short
 
-  pub rows-show : take (searchAnswer one lent .found .length) (searchAnswer one lent .lent .trace)
-      ≡ take (searchAnswer one lent .found .length) (searchAnswer other held .lent .trace)
-  rows-show = Alike.rows-show one other lent held n fit passes signals rows room short
+  pub rows-show : take (searchValues one lent .length) (searchAnswer one lent .lent .trace)
+      ≡ take (searchValues one lent .length) (searchAnswer other held .lent .trace)
+  rows-show = SameInput.rows-show one other lent held n fit passes signals rows room short
 
 -- Point 5, the report: from the bytes of any file to the bytes that are printed, in any lent
 -- memory.
@@ -176,7 +176,7 @@ module _ (bytes : List ℕ) (lent : Lent) where
   pub prints-refused : (number line : ℕ) → readAnswer bytes ≡ refusedFile number line
       → checkAnswer bytes lent .report ≡ ended (heading ∷ refusedLine number line ∷ [])
   prints-refused number line is =
-      ap (λ (c : Checked). c .report) (Reporting.refused-report bytes lent number line is)
+      ap (λ (f : FileReport). f .report) (Reporting.refused-report bytes lent number line is)
 
   module _ (table : Table) (file : IsFile bytes table) where
     -- so does a table with more states than room;
@@ -188,14 +188,14 @@ module _ (bytes : List ℕ) (lent : Lent) where
     module _ (n : ℕ) (fit : Fit table lent n) where
       pub prints-sound : CanGoOn (systemOf table)
           → checkAnswer bytes lent .report
-          ≡ ended (heading ∷ sizeLines (sizeOf (table .count) n) ++ soundLine ∷ [])
+          ≡ ended (heading ∷ sizeLines (table .count) n ++ soundLine ∷ [])
       prints-sound on = Reporting.sound-report bytes lent table file n fit
           (Searching.sound-means (systemOf table) .1 on)
 
-      pub prints-trapped : (w : List ℕ) (k : ℕ) → Shown (systemOf table) w k
+      pub prints-trapped : (w : List ℕ) (k : ℕ) → EarliestDead (systemOf table) w k
           → length w ≤ length (lent .trace)
           → checkAnswer bytes lent .report
-          ≡ ended (heading ∷ sizeLines (sizeOf (table .count) n) ++ trappedLine
+          ≡ ended (heading ∷ sizeLines (table .count) n ++ trappedLine
           ∷ tickLines (table .signals) 1 w ++ (lostWord ++ decimal k) ∷ [])
       prints-trapped w k shown = Reporting.trapped-report bytes lent table file n fit w k
           (Searching.trapped-means (systemOf table) w k .1 shown)

@@ -2,17 +2,16 @@
 -- nothing.
 use Prim.Native.Nat.{ℕ}
 use mathlib.Core.Path.{_≡_, refl, sym, _∙_}
-use lib.ListN.{length}
 use Rattle.table.specs.declared.Table.{Table}
-use Rattle.search.specs.Answer.{Lent, Searched}
-use Rattle.demands.specs.Searching.{Fit, SameLengths, SameScratch, Entered, RightAnswer}
+use Rattle.search.specs.Lent.{Lent, Searched}
+use Rattle.demands.specs.Searching.{Fit, SameScratch, Entered, RightAnswer}
 use Rattle.demands.specs.Searching.RightAnswer.{is17, is20, is21, isSound, isTrapped}
 use Rattle.demands.specs.inner.Answers.{withEntries, ComputedAnswer}
 use Rattle.demands.specs.inner.Answers.ComputedAnswer.{is17 as computed17}
 use Rattle.demands.specs.inner.Answers.ComputedAnswer.{is20 as computed20, is21 as computed21}
 use Rattle.demands.specs.inner.Answers.ComputedAnswer.{isSound as computedSound}
 use Rattle.demands.specs.inner.Answers.ComputedAnswer.{isTrapped as computedTrapped}
-use Rattle.demands.proofs.Entries.{scratch-shown, filled-lengths}
+use Rattle.demands.proofs.Entries.{scratch-held, filled-lengths}
 use Rattle.demands.proofs.ScratchLaws.{scratch-same}
 
 -- Lent memory that agrees in all lists is the same.
@@ -27,10 +26,10 @@ lent-same one other s t = λ i. record {
 
 module _ (table : Table) (lent : Lent) where
   -- What is computed is as described,
-  pub entered : (n : ℕ) → Fit table lent n → Entered table n lent (withEntries table lent)
-  entered n fit = record {
+  pub entries-entered : (n : ℕ) → Fit table lent n → Entered table n lent (withEntries table lent)
+  entries-entered n fit = record {
     lengths = filled-lengths table lent n fit;
-    scratch = scratch-shown table lent n fit (withEntries table lent)
+    scratch = scratch-held table lent n fit (withEntries table lent)
         (record { states = refl; predecessors = refl; letters = refl; lost = refl });
     trace = refl;
   }
@@ -39,7 +38,7 @@ module _ (table : Table) (lent : Lent) where
   entered-is : (n : ℕ) (held : Lent) → Fit table lent n → Entered table n lent held
       → held ≡ withEntries table lent
   entered-is n held fit e =
-      let own = entered n fit in
+      let own = entries-entered n fit in
       let a = e .lengths in
       let b = own .lengths in
       lent-same held (withEntries table lent) (scratch-same table n (e .scratch) (own .scratch)
@@ -54,9 +53,9 @@ module _ (table : Table) (lent : Lent) where
   pub described : {a : Searched} → ComputedAnswer table lent a → RightAnswer table lent a
   described (computed17 p) = is17 p
   described (computed20 p m) = is20 p m
-  described (computed21 f t l) = is21 f t l (entered _ f)
-  described (computedSound f s) = isSound f s (entered _ f)
-  described (computedTrapped f t l) = isTrapped f t l (entered _ f)
+  described (computed21 f t l) = is21 f t l (entries-entered _ f)
+  described (computedSound f s) = isSound f s (entries-entered _ f)
+  described (computedTrapped f t l) = isTrapped f t l (entries-entered _ f)
 
   pub computed : {a : Searched} → RightAnswer table lent a → ComputedAnswer table lent a
   computed (is17 p) = computed17 p

@@ -4,8 +4,7 @@ use native.Mathlib.Omega.{arith}
 use mathlib.Core.Bool.{true}
 use mathlib.Core.List.{List, [], _∷_, _++_}
 use mathlib.Core.Path.{_≡_, refl}
-use lib.ListN.{length, length-append, length-replicate}
-use lib.Seq.{take-at}
+use lib.ListN.{length, length-replicate}
 use borrow.Author.Tests.{lt-ltb}
 use Rattle.letters.specs.Letter.{letters, letterFits}
 use Rattle.letters.specs.Lists.{every}
@@ -19,16 +18,19 @@ use Rattle.reader.specs.Reading.{refusedFile}
 use Rattle.reader.specs.Grammar.{IsFile}
 use Rattle.reader.proofs.Accepted.{file-accepted}
 use Rattle.reader.proofs.Fits.{file-fits}
-use Rattle.search.specs.Answer.{Lent, Searched, roomOf, systemOf}
+use Rattle.scratch.specs.Room.{mostRoom}
+use Rattle.verdict.specs.declared.Found.{Found}
+use Rattle.verdict.specs.Found.{valuesOf}
+use Rattle.verdict.proofs.Buffer.{written-front, written-length}
+use Rattle.search.specs.Lent.{Lent, Searched, roomOf, systemOf}
 use Rattle.search.specs.inner.Computed.{searchAnswer}
 use Rattle.report.specs.Report.{heading, refusedLine, sizeLines, soundLine, trappedLine, tickLines}
-use Rattle.report.specs.Report.{lostWord, reportLines, traceLength, Shows}
-use Rattle.report.specs.declared.Answer.{Answer as Told}
-use Rattle.checker.specs.Answer.{sizeOf, answerOf, checkAnswer, programLent}
+use Rattle.report.specs.Report.{lostWord, reportLines, TraceInBuffer}
+use Rattle.checker.specs.FileReport.{checkAnswer, programLent}
 use Rattle.demands.specs.Searching.{Fit}
 use Rattle.demands.specs.inner.Answers.{ComputedAnswer}
 use Rattle.demands.specs.inner.Answers.ComputedAnswer.{is17, is20, is21, isSound, isTrapped}
-use Rattle.demands.proofs.SearchLaws as S
+use Rattle.demands.proofs.Answers.{one-of-five, answer-is}
 
 module _ (bytes : List ℕ) (lent : Lent) where
   pub refused-report : (number line : ℕ) → readAnswer bytes ≡ refusedFile number line
@@ -44,30 +46,30 @@ module _ (bytes : List ℕ) (lent : Lent) where
 
     pub many-report : ReachedMany (systemOf table) (suc (roomOf lent))
         → checkAnswer bytes lent .report ≡ ended (heading ∷ refusedLine 20 0 ∷ [])
-    unfolding checkAnswer answerOf reportLines
+    unfolding checkAnswer reportLines
     many-report many =
-        let answer = S.answer-is table lent (is20 (file-fits bytes table file) many) in
+        let answer = answer-is table lent (is20 (file-fits bytes table file) many) in
         rw (file-accepted bytes table file, answer)
 
     module _ (n : ℕ) (fit : Fit table lent n) where
       pub sound-report : Sound (systemOf table)
           → checkAnswer bytes lent .report
-          ≡ ended (heading ∷ sizeLines (sizeOf (table .count) n) ++ soundLine ∷ [])
-      unfolding checkAnswer answerOf reportLines
+          ≡ ended (heading ∷ sizeLines (table .count) n ++ soundLine ∷ [])
+      unfolding checkAnswer reportLines
       sound-report sound =
-          rw (file-accepted bytes table file, S.answer-is table lent (isSound fit sound))
+          rw (file-accepted bytes table file, answer-is table lent (isSound fit sound))
 
       pub trapped-report : (w : List ℕ) (k : ℕ) → Trapped (systemOf table) w k
           → length w ≤ length (lent .trace)
           → checkAnswer bytes lent .report
-          ≡ ended (heading ∷ sizeLines (sizeOf (table .count) n) ++ trappedLine
+          ≡ ended (heading ∷ sizeLines (table .count) n ++ trappedLine
           ∷ tickLines (table .signals) 1 w ++ (lostWord ++ decimal k) ∷ [])
-      unfolding checkAnswer answerOf reportLines
+      unfolding checkAnswer reportLines
       trapped-report w k trapped short =
           rw (
             file-accepted bytes table file,
-            S.answer-is table lent (isTrapped fit trapped short),
-            take-at w _ (length w) refl,
+            answer-is table lent (isTrapped fit trapped short),
+            written-front w (lent .trace) short,
           )
 
 -- The letters of an unbroken trace are letters of the table.
@@ -76,33 +78,32 @@ unfolding every
 below-fits s [] h = refl
 below-fits s (l ∷ w) h = rw (lt-ltb l (letters s) (h .0), below-fits s w (h .1))
 
--- An answer without a trace shows none.
-no-trace : (s : ℕ) (buffer : List ℕ) (answer : Told) → traceLength answer ≡ 0
-    → Shows s buffer answer
+-- What is found without a trace is in every buffer.
+no-trace : (s : ℕ) (buffer : List ℕ) (found : Found) → valuesOf found .length ≡ 0
+    → TraceInBuffer s buffer found
 unfolding every
-no-trace s buffer answer e = record { whole = rw e (omega arith); letters = rw e }
+no-trace s buffer found e = record { whole = rw e (omega arith); letters = rw e }
 
-pub searched-shows : (table : Table) (lent : Lent)
-    → Shows (table .signals) (searchAnswer table lent .lent .trace)
-    (answerOf (table .count) (searchAnswer table lent .found))
-unfolding answerOf
-searched-shows table lent = go _ (S.answered table lent)
+pub searched-in-buffer : (table : Table) (lent : Lent)
+    → TraceInBuffer (table .signals) (searchAnswer table lent .lent .trace)
+    (searchAnswer table lent .found)
+searched-in-buffer table lent = go (one-of-five table lent)
   where
-    go : (a : Searched) → ComputedAnswer table lent a
-        → Shows (table .signals) (a .lent .trace) (answerOf (table .count) (a .found))
-    go a (is17 p) = no-trace _ _ _ refl
-    go a (is20 p m) = no-trace _ _ _ refl
-    go a (is21 f t long) = no-trace _ _ _ refl
-    go a (isSound f s) = no-trace _ _ _ refl
-    go a (isTrapped {w = w} f t short) = record {
-      whole = rw length-append (omega arith);
-      letters = rw (take-at w _ (length w) refl) (below-fits _ w (t .fine .letters));
+    go : {a : Searched} → ComputedAnswer table lent a
+        → TraceInBuffer (table .signals) (a .lent .trace) (a .found)
+    go (is17 p) = no-trace _ _ _ refl
+    go (is20 p m) = no-trace _ _ _ refl
+    go (is21 f t long) = no-trace _ _ _ refl
+    go (isSound f s) = no-trace _ _ _ refl
+    go (isTrapped {w = w} f t short) = record {
+      whole = rw (written-length w (lent .trace) short) short;
+      letters = rw (written-front w (lent .trace) short) (below-fits _ w (t .fine .letters));
     }
 
 -- What the program lends.
-pub program-room : roomOf programLent ≡ 4096
+pub program-room : roomOf programLent ≡ mostRoom
 unfolding roomOf
-program-room = let long = length-replicate {A = ℕ} 4096 0 in omega arith
+program-room = let long = length-replicate {A = ℕ} mostRoom 0 in omega arith
 
 pub program-long : {m : ℕ} → m < roomOf programLent → m ≤ length (programLent .trace)
 program-long low = rw length-replicate (omega (arith, rw program-room at low))

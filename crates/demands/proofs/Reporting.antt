@@ -11,35 +11,42 @@ use Rattle.text.specs.Lines.{ended}
 use Rattle.reader.specs.Reading.{refusedFile}
 use Rattle.reader.specs.inner.File.{readAnswer}
 use Rattle.reader.specs.Grammar.{IsFile}
-use Rattle.search.specs.Answer.{Lent, roomOf, systemOf}
+use Rattle.scratch.specs.Room.{mostRoom}
+use Rattle.verdict.specs.declared.Found.{Found}
+use Rattle.verdict.specs.Found.{Verdict, valuesOf}
+use Rattle.search.specs.Lent.{Lent, roomOf, systemOf}
 use Rattle.search.specs.inner.Computed.{searchAnswer}
-use Rattle.demands.specs.Searching.{Fit}
-use Rattle.report.specs.declared.Answer.{Answer as Told}
 use Rattle.report.specs.Report.{heading, refusedLine, sizeLines, soundLine, trappedLine, tickLines}
-use Rattle.report.specs.Report.{lostWord, reportBytes, traceLength, Shows}
-use Rattle.report.proofs.Telling as Telling
-use Rattle.checker.specs.Answer.{sizeOf, answerOf, checkAnswer, programLent}
-use Rattle.checker.proofs.Short as Short
-use Rattle.demands.specs.Cases.{report}
+use Rattle.report.specs.Report.{lostWord, reportBytes, TraceInBuffer}
+use Rattle.report.proofs.Injective.{SameReported, bytes-injective}
+use Rattle.checker.specs.FileReport.{checkAnswer, programLent, mostReport}
+use Rattle.checker.proofs.ReportLength as ReportLength
+use Rattle.demands.specs.Searching.{Fit}
 use Rattle.demands.proofs.ReportLaws as Laws
 use Rattle.demands.proofs.Searching.{trace-low}
 
--- The report. Different answers give different reports: where the bytes are the same, so are the
--- answer and its trace, for one number of signals. What the search finds in a table is such an
--- answer (`Shows`).
-pub searched-shows : (table : Table) (lent : Lent)
-    → Shows (table .signals) (searchAnswer table lent .lent .trace)
-    (answerOf (table .count) (searchAnswer table lent .found))
-searched-shows = Laws.searched-shows
+-- The report. Different findings give different reports: where the bytes are the same, so are what
+-- is found, its trace and, under a verdict, the number of rows, for one number of signals. What the
+-- search finds has its trace in the buffer.
+pub searched-in-buffer : (table : Table) (lent : Lent)
+    → TraceInBuffer (table .signals) (searchAnswer table lent .lent .trace)
+    (searchAnswer table lent .found)
+searched-in-buffer = Laws.searched-in-buffer
 
-module _ (signals : ℕ) (one other : Told) (b c : List ℕ) (shows : Shows signals b one)
-    (tells : Shows signals c other)
-    (same : reportBytes signals b one ≡ reportBytes signals c other) where
-  pub same-answer : one ≡ other
-  same-answer = Telling.same-answer signals one other b c shows tells same
+module _ (signals rows rows′ : ℕ) (one other : Found) (b c : List ℕ)
+    (in-one : TraceInBuffer signals b one) (in-other : TraceInBuffer signals c other)
+    (same : reportBytes rows signals b one ≡ reportBytes rows′ signals c other) where
+  reported : SameReported rows rows′ one other b c
+  reported = bytes-injective signals rows rows′ one other b c in-one in-other same
 
-  pub same-trace : take (traceLength one) b ≡ take (traceLength other) c
-  same-trace = Telling.same-trace signals one other b c shows tells same
+  pub same-finding : one ≡ other
+  same-finding = reported .found
+
+  pub same-trace : take (valuesOf one .length) b ≡ take (valuesOf other .length) c
+  same-trace = reported .trace
+
+  pub same-rows : (valuesOf one .verdict ≡ Verdict.noVerdict → ⊥) → rows ≡ rows′
+  same-rows = reported .size
 
 -- From the bytes of any file to the bytes of its report, in any lent memory. "A refused one prints
 -- the first line and `refused 13 line 3`, with its own number and line"; lent memory is unchanged.
@@ -63,19 +70,19 @@ module _ (bytes : List ℕ) (lent : Lent) where
     module _ (n : ℕ) (fit : Fit table lent n) where
       pub sound-report : Sound (systemOf table)
           → checkAnswer bytes lent .report
-          ≡ ended (heading ∷ sizeLines (sizeOf (table .count) n) ++ soundLine ∷ [])
+          ≡ ended (heading ∷ sizeLines (table .count) n ++ soundLine ∷ [])
       sound-report = Laws.sound-report bytes lent table file n fit
 
       pub trapped-report : (w : List ℕ) (k : ℕ) → Trapped (systemOf table) w k
           → length w ≤ length (lent .trace)
           → checkAnswer bytes lent .report
-          ≡ ended (heading ∷ sizeLines (sizeOf (table .count) n) ++ trappedLine
+          ≡ ended (heading ∷ sizeLines (table .count) n ++ trappedLine
           ∷ tickLines (table .signals) 1 w ++ (lostWord ++ decimal k) ∷ [])
       trapped-report = Laws.trapped-report bytes lent table file n fit
 
 -- "The program lends room 4,096 and a trace buffer of as many bytes": it always shows the trace,
 -- never refused with 21, and its own buffer holds every report.
-pub program-room : roomOf programLent ≡ 4096
+pub program-room : roomOf programLent ≡ mostRoom
 program-room = Laws.program-room
 
 pub program-shows : (table : Table) (n : ℕ) → Fit table programLent n → (w : List ℕ) (k : ℕ)
@@ -83,5 +90,6 @@ pub program-shows : (table : Table) (n : ℕ) → Fit table programLent n → (w
 program-shows table n fit w k trapped =
     Laws.program-long (lt-of-lt-of-le (trace-low table programLent n fit w k trapped) (fit .room))
 
-pub program-short : (bytes : List ℕ) → length (checkAnswer bytes programLent .report) ≤ 70000
-program-short = Short.program-short
+pub program-short : (bytes : List ℕ)
+    → length (checkAnswer bytes programLent .report) ≤ mostReport
+program-short = ReportLength.program-short

@@ -4,21 +4,20 @@ use Prim.Native.Nat.{ℕ, zero, suc, _<_}
 use native.Mathlib.Decide.{ℕ-discrete, decLt}
 use native.Mathlib.Omega.{arith}
 use mathlib.Core.List.{List, [], _∷_, _++_}
-use mathlib.Core.Logic.{_⊎_, inl, inr}
-use mathlib.Core.Path.{_≡_, refl, sym, ap, _∙_}
+use mathlib.Core.Logic.{inl, inr}
+use mathlib.Core.Path.{_≡_, sym, ap, _∙_}
 use lib.ListN.{length, getD, take, length-append}
 use lib.Seq.{ext-getD, getD-append-seam, take-append-seam}
 use Rattle.letters.specs.Lists.{ZeroFrom}
 use Rattle.table.specs.declared.Table.{Table}
-use Rattle.traces.specs.Order.{Earlier, NotAfter}
+use Rattle.traces.specs.Order.{Earlier}
 use Rattle.traces.specs.Trace.{run, Reached}
 use Rattle.traces.proofs.Order.{earlier-irrefl, earlier-trans, notAfter-antisym}
 use Rattle.traces.proofs.Doomed.{lost-unique, lost-doomed}
 use Rattle.step.specs.declared.Phase.{Phase}
 use Rattle.successors.specs.State.{packed}
-use Rattle.search.specs.Answer.{Lent, systemOf}
-use Rattle.demands.specs.Searching.{LostOrZero, EntryShown, ScratchShown, SameLengths}
-use Rattle.demands.specs.Searching.{SameScratch}
+use Rattle.search.specs.Lent.{Lent, systemOf}
+use Rattle.demands.specs.Searching.{LostOrZero, ScratchHeld, SameLengths, SameScratch}
 
 -- What a list ends with, and what stands before it.
 snoc-same : (xs ys : List ℕ) (a b : ℕ) → xs ++ (a ∷ []) ≡ ys ++ (b ∷ []) → (xs ≡ ys) × (a ≡ b)
@@ -37,14 +36,14 @@ snoc-same xs ys a b e =
 
 module _ (table : Table) (n : ℕ) where
   -- An entry's state is reached.
-  reached : {l : Lent} (x : ScratchShown table n l) (e : ℕ) → e < n
+  entry-reached : {l : Lent} (x : ScratchHeld table n l) (e : ℕ) → e < n
       → Reached (systemOf table) (x .state e)
-  reached x e h =
+  entry-reached x e h =
       let y = x .entry e h in
       record { trace = x .trace e; fine = y .fine; leads = y .leads }
 
   -- Entries with the same state have the same trace.
-  same-trace : {l m : Lent} (x : ScratchShown table n l) (y : ScratchShown table n m) (e f : ℕ)
+  same-trace : {l m : Lent} (x : ScratchHeld table n l) (y : ScratchHeld table n m) (e f : ℕ)
       → e < n → f < n → x .state e ≡ y .state f → x .trace e ≡ y .trace f
   same-trace x y e f p q is =
       let a = x .entry e p in
@@ -54,7 +53,7 @@ module _ (table : Table) (n : ℕ) where
 
   -- The same state stands at each place: below it by assumption; and a state that stood later on
   -- one side would have a trace both earlier and later than the other's.
-  module _ {l m : Lent} (x : ScratchShown table n l) (y : ScratchShown table n m) (e : ℕ)
+  module _ {l m : Lent} (x : ScratchHeld table n l) (y : ScratchHeld table n m) (e : ℕ)
       (low : e < n) (below : (f : ℕ) → f < e → x .state f ≡ y .state f) where
     -- where the state of entry e stands on the other side
     not-below : (f : ℕ) → f < e → y .state f ≡ x .state e → ⊥
@@ -74,7 +73,7 @@ module _ (table : Table) (n : ℕ) where
         earlier-irrefl (x .trace e) (earlier-trans a b)
 
     place : x .state e ≡ y .state e
-    place = go (y .every _ (reached x e low)) (x .every _ (reached y e low))
+    place = go (y .every _ (entry-reached x e low)) (x .every _ (entry-reached y e low))
       where
         go : (f : ℕ) × (f < n) × (y .state f ≡ x .state e)
             → (g : ℕ) × (g < n) × (x .state g ≡ y .state e) → x .state e ≡ y .state e
@@ -89,7 +88,7 @@ module _ (table : Table) (n : ℕ) where
                 absurd (later f g p q (omega arith) (omega arith) is is′)
 
   -- So it is of all places.
-  module _ {l m : Lent} (x : ScratchShown table n l) (y : ScratchShown table n m) where
+  module _ {l m : Lent} (x : ScratchHeld table n l) (y : ScratchHeld table n m) where
     up-to : (k e : ℕ) → e < k → e < n → x .state e ≡ y .state e
     up-to zero e h low = absurd (omega arith)
     up-to (suc k) e h low = place x y e low (λ f q. up-to k f (omega arith) (omega arith))
@@ -146,7 +145,7 @@ module _ (table : Table) (n : ℕ) where
         go {s} {j} {k} (inr p) (inl q) = absurd (q .1 (lost-doomed (systemOf table) s j p))
         go {s} {j} {k} (inr p) (inr q) = lost-unique (systemOf table) s j k p q
 
-    -- and 0 behind the entries
+    -- and 0 after the entries
     lists-same : (u v : List ℕ) → length u ≡ length v
         → ((e : ℕ) → e < n → getD u e 0 ≡ getD v e 0) → ZeroFrom 0 n u → ZeroFrom 0 n v → u ≡ v
     lists-same u v long same zu zv = ext-getD 0 u v long (λ e h. go e h (decLt e n))

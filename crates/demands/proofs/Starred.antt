@@ -27,18 +27,20 @@ use Rattle.step.specs.Step.{actionCheck, delayCheck, triggerCheck, stepRow}
 use Rattle.step.specs.Tick.{tick, tableSystem}
 use Rattle.step.proofs.Systems.{table-lawful}
 use Rattle.scratch.specs.inner.Same.{kindOf, elapsed, samePhase, samePhases}
-use Rattle.search.specs.Answer.{Lent, roomOf, systemOf, traced, trappedFound}
+use Rattle.verdict.specs.Found.{trappedFound}
+use Rattle.search.specs.Lent.{Lent, roomOf, systemOf, traced}
 use Rattle.search.specs.inner.Computed.{judged, searchAnswer}
 use Rattle.scratch.proofs.Same.{phases-tell}
-use Rattle.demands.specs.Cases.{P, Case, Means, trappedWith, right, starred, report, delayed}
+use Rattle.demands.specs.Cases.{P, Case, CaseMeans, trappedWith, isRight, starred, report}
+use Rattle.demands.specs.Cases.{delayed}
 use Rattle.demands.specs.Cases.Case.{after, traps}
 use Rattle.demands.specs.inner.Answers.{withEntries}
 use Rattle.demands.specs.Searching.{Fit}
-use Rattle.demands.proofs.SearchLaws.{right-judged}
-use Rattle.demands.proofs.Described.{entered}
+use Rattle.demands.proofs.Answers.{right-judged}
+use Rattle.demands.proofs.Described.{entries-entered}
 
-pub starred-right : every right starred ≡ true
-unfolding every right starred run codeOf stepRow triggerCheck delayCheck actionCheck bitAt setOf
+pub starred-right : every isRight starred ≡ true
+unfolding every isRight starred run codeOf stepRow triggerCheck delayCheck actionCheck bitAt setOf
     trappedWith answer verdictFrom lostWithin breaksIn passBelow traceOf back explore visit enter
     has samePhases samePhase kindOf elapsed tick some isBroken sameBytes
 starred-right = refl
@@ -60,16 +62,16 @@ trapped-room : (X : System) (room other : ℕ) (w : List ℕ) (k n : ℕ) → n 
     → Right X room (trapped n w k) → Right X other (trapped n w k)
 trapped-room X room other w k n h (trapped-right c q t) = trapped-right c h t
 
-table-right : (rows : List Row) (w : List ℕ) (k n : ℕ) → right (traps rows w k n) ≡ true
+table-right : (rows : List Row) (w : List ℕ) (k n : ℕ) → isRight (traps rows w k n) ≡ true
     → (room : ℕ) → n ≤ room → Right (tableSystem 2 rows) room (trapped n w k)
-unfolding right
+unfolding isRight
 table-right rows w k n h room fits =
     let X = tableSystem 2 rows in
     trapped-room X 8 room w k n fits (rw (trapped-is w k n (answer X samePhases 8) h) at
     (answer-right X 8 (table-lawful 2 rows) samePhases (phases-tell 2 rows)))
 
 -- The whole answer, with the scratch computed.
-module _ (rows : List Row) (w : List ℕ) (k n : ℕ) (h : right (traps rows w k n) ≡ true)
+module _ (rows : List Row) (w : List ℕ) (k n : ℕ) (h : isRight (traps rows w k n) ≡ true)
     (table : Table) (lent : Lent) (passes : tableFits table ≡ true) (signals : table .signals ≡ 2)
     (is : rowsOf table ≡ rows) (room : n ≤ roomOf lent) where
   rightly : Right (systemOf table) (roomOf lent) (trapped n w k)
@@ -88,22 +90,22 @@ module _ (rows : List Row) (w : List ℕ) (k n : ℕ) (h : right (traps rows w k
   table-is short = right-judged table lent passes (trapped n w k) rightly
       ∙ rw (le-leb (length w) (length (lent .trace)) short)
 
-table-means : (rows : List Row) (w : List ℕ) (k n : ℕ) → right (traps rows w k n) ≡ true
-    → Means (traps rows w k n)
+table-means : (rows : List Row) (w : List ℕ) (k n : ℕ) → isRight (traps rows w k n) ≡ true
+    → CaseMeans (traps rows w k n)
 table-means rows w k n h table lent passes signals is room short = (
   withEntries table lent,
-  entered table lent n (fit rows w k n h table lent passes signals is room),
+  entries-entered table lent n (fit rows w k n h table lent passes signals is room),
   table-is rows w k n h table lent passes signals is room short,
 )
 
-pub right-means : (case : Case) → right case ≡ true → Means case
-unfolding right
+pub right-means : (case : Case) → isRight case ≡ true → CaseMeans case
+unfolding isRight
 right-means (after row letters code) h = eqb-true _ code h
 right-means (traps rows w k n) h = table-means rows w k n h
 
 -- So each starred case holds, and of a table it holds at every room that holds the states.
-pub starred-means : (i : ℕ) → i < length starred → Means (getD starred i (after P [] 0))
-starred-means i h = right-means _ (every-at right starred i (after P [] 0) starred-right h)
+pub starred-means : (i : ℕ) → i < length starred → CaseMeans (getD starred i (after P [] 0))
+starred-means i h = right-means _ (every-at isRight starred i (after P [] 0) starred-right h)
 
 -- "The report's table: trapped, trace 1, lost 1, two states."
 module _ (table : Table) (lent : Lent) (passes : tableFits table ≡ true)
@@ -115,7 +117,7 @@ module _ (table : Table) (lent : Lent) (passes : tableFits table ≡ true)
       }
   unfolding starred
   report-trapped is room =
-      table-is report (1 ∷ []) 1 2 (every-at right starred 14 (after P [] 0) starred-right
+      table-is report (1 ∷ []) 1 2 (every-at isRight starred 14 (after P [] 0) starred-right
       (omega arith))
       table lent passes signals is room short
 
@@ -127,6 +129,6 @@ module _ (table : Table) (lent : Lent) (passes : tableFits table ≡ true)
       }
   unfolding starred
   delayed-trapped is room =
-      table-is delayed (1 ∷ []) 3 4 (every-at right starred 15 (after P [] 0) starred-right
+      table-is delayed (1 ∷ []) 3 4 (every-at isRight starred 15 (after P [] 0) starred-right
       (omega arith))
       table lent passes signals is room short

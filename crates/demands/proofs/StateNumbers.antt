@@ -11,7 +11,7 @@ use Rattle.table.proofs.Laws.{tableFits-rules, rulesFit-rows, rulesFit-count}
 use Rattle.traces.specs.Trace.{Reached}
 use Rattle.step.specs.declared.Phase.{Phase}
 use Rattle.successors.specs.State.{packed, unpacked}
-use Rattle.search.specs.Answer.{systemOf}
+use Rattle.search.specs.Lent.{systemOf}
 use Rattle.search.proofs.Bound.{reached-fits, reached-length}
 use Rattle.successors.proofs.Packing.{packed-back, packed-fits}
 

@@ -18,7 +18,8 @@ use Rattle.step.specs.declared.Phase.the-variants.{Waiting}
 use Rattle.step.specs.Phase.{codeOf}
 use Rattle.step.specs.Tick.{rowSystem, tableSystem}
 use Rattle.scratch.specs.inner.Same.{samePhases}
-use Rattle.search.specs.Answer.{Lent, roomOf, traced, trappedFound}
+use Rattle.verdict.specs.Found.{trappedFound}
+use Rattle.search.specs.Lent.{Lent, roomOf, traced}
 use Rattle.search.specs.inner.Computed.{searchAnswer}
 use Rattle.demands.specs.Searching.{Entered}
 
@@ -82,15 +83,15 @@ trappedWith w k n (sound m) = false
 trappedWith w k n (trapped m v j) = sameBytes v w && eqb j k && eqb m n
 
 -- What is computed: a room of 8 is enough.
-unfoldable pub right : Case → Bool
-right (after row letters code) = eqb (codeOf (run (rowSystem 2 row) Waiting letters)) code
-right (traps rows w k n) = trappedWith w k n (answer (tableSystem 2 rows) samePhases 8)
+unfoldable pub isRight : Case → Bool
+isRight (after row letters code) = eqb (codeOf (run (rowSystem 2 row) Waiting letters)) code
+isRight (traps rows w k n) = trappedWith w k n (answer (tableSystem 2 rows) samePhases 8)
 
 -- What it means: the phase after the letters; or the whole answer of the search, for every table
 -- value with those rows and all lent memory that holds the states and the trace.
-abbrev pub Means : Case → Type 0
-Means (after row letters code) = codeOf (run (rowSystem 2 row) Waiting letters) ≡ code
-Means (traps rows w k n) = (table : Table) (lent : Lent) → tableFits table ≡ true
+abbrev pub CaseMeans : Case → Type 0
+CaseMeans (after row letters code) = codeOf (run (rowSystem 2 row) Waiting letters) ≡ code
+CaseMeans (traps rows w k n) = (table : Table) (lent : Lent) → tableFits table ≡ true
     → table .signals ≡ 2 → rowsOf table ≡ rows → n ≤ roomOf lent
     → length w ≤ length (lent .trace)
     → (held : Lent) × Entered table n lent held

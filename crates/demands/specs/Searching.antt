@@ -16,8 +16,13 @@ use Rattle.letters.specs.Lists.{ZeroFrom}
 use Rattle.step.specs.declared.Phase.{Phase}
 use Rattle.step.specs.Tick.{startPhases}
 use Rattle.successors.specs.State.{packed}
-use Rattle.search.specs.Answer.{Lent, Searched, roomOf, systemOf, cleared}
-use Rattle.search.specs.Answer.{atFront, traced, refusedFound, soundFound, trappedFound}
+use Rattle.verdict.specs.Found.{Values, valuesOf, refusedFound, soundFound, trappedFound}
+use Rattle.search.specs.Lent.{Lent, Searched, roomOf, systemOf, cleared, traced}
+use Rattle.search.specs.inner.Computed.{searchAnswer}
+
+-- Number and values of what a search finds.
+abbrev pub searchValues : Table → Lent → Values
+searchValues table lent = valuesOf (searchAnswer table lent .found)
 
 -- Demand 3 in its own words, over traces. "Some unbroken trace has a number of ticks after which
 -- every extension is broken": w is such a trace and n such a number. "An extension of a trace by n
@@ -30,7 +35,7 @@ pub record Dead (X : System) (w : List ℕ) (n : ℕ) : Type 0 where
 -- "Trapped shows such a trace: every other such trace is longer, or as long with a larger letter
 -- where the two first differ. With it goes one such number, and every other for that trace is
 -- larger."
-pub record Shown (X : System) (w : List ℕ) (k : ℕ) : Type 0 where
+pub record EarliestDead (X : System) (w : List ℕ) (k : ℕ) : Type 0 where
   pub such : Dead X w k
   pub earliest : (v : List ℕ) (n : ℕ) → Dead X v n → NotAfter w v
   pub least : (n : ℕ) → Dead X w n → k ≤ n
@@ -46,25 +51,6 @@ pub record Fit (table : Table) (lent : Lent) (n : ℕ) : Type 0 where
   pub passes : tableFits table ≡ true
   pub count : ReachedCount (systemOf table) n
   pub room : n ≤ roomOf lent
-
--- What is answered of a trapped table: the trace and its lost number, with n states,
-pub record TrapShown (table : Table) (lent : Lent) (n : ℕ) (a : Searched) : Type 0 where
-  pub trace : List ℕ
-  pub ticks : ℕ
-  pub trapped : Trapped (systemOf table) trace ticks
-  pub short : length trace ≤ length (lent .trace)
-  pub found : a .found ≡ trappedFound n trace ticks
-  -- "The trace buffer holds it from the front, the rest unchanged."
-  pub buffer : a .lent .trace ≡ atFront trace (lent .trace)
-
--- or that this "trace is longer than its buffer".
-pub record TrapRefused (table : Table) (lent : Lent) (a : Searched) : Type 0 where
-  pub trace : List ℕ
-  pub ticks : ℕ
-  pub trapped : Trapped (systemOf table) trace ticks
-  pub long : length (lent .trace) < length trace
-  pub found : a .found ≡ refusedFound 21
-  pub buffer : a .lent .trace ≡ lent .trace
 
 -- Lent memory of the same size, whatever it holds.
 pub record SameLengths (one other : Lent) : Type 0 where
@@ -88,7 +74,7 @@ LostOrZero X s n = ((n ≡ 0) × (Doomed X s → ⊥)) ⊎ Lost X s n
 -- What scratch holds of entry e, with `state` and `trace` giving the states of the entries and
 -- their earliest traces. "Each entry has the state, the number of its predecessor entry, the letter
 -- between them, and the lost number (0 if not doomed)."
-pub record EntryShown (table : Table) (state : ℕ → List Phase) (trace : ℕ → List ℕ) (lent : Lent)
+pub record EntryHeld (table : Table) (state : ℕ → List Phase) (trace : ℕ → List ℕ) (lent : Lent)
     (e : ℕ)
     : Type 0 where
   pub fine : Unbroken (systemOf table) (trace e)
@@ -107,10 +93,10 @@ pub record EntryShown (table : Table) (state : ℕ → List Phase) (trace : ℕ 
 
 -- "States reached by unbroken traces are entered once each, in the order of their earliest trace:
 -- shorter first, then by the first letter that is smaller." n entries.
-pub record ScratchShown (table : Table) (n : ℕ) (lent : Lent) : Type 0 where
+pub record ScratchHeld (table : Table) (n : ℕ) (lent : Lent) : Type 0 where
   pub state : ℕ → List Phase
   pub trace : ℕ → List ℕ
-  pub entry : (e : ℕ) → e < n → EntryShown table state trace lent e
+  pub entry : (e : ℕ) → e < n → EntryHeld table state trace lent e
   pub every : (s : List Phase) → Reached (systemOf table) s
       → (e : ℕ) × (e < n) × (state e ≡ s)
   pub once : (e f : ℕ) → e < f → f < n → state e ≡ state f → ⊥
@@ -134,7 +120,7 @@ pub record EarliestDoomed (n : ℕ) (trace : ℕ → List ℕ) (lost : List ℕ)
 -- as they were, the scratch with n entries, and the trace buffer as it was.
 pub record Entered (table : Table) (n : ℕ) (lent held : Lent) : Type 0 where
   pub lengths : SameLengths lent held
-  pub scratch : ScratchShown table n held
+  pub scratch : ScratchHeld table n held
   pub trace : held .trace ≡ lent .trace
 
 -- "The search tests 17, 20, 21": all that a call can answer, and what each answer says.

@@ -161,10 +161,10 @@ module _ (signals : ℕ) where
 
 -- What two reports show is the same: what is found, the trace and, under a verdict, the number of
 -- rows.
-pub record SameShown (rows rows′ : ℕ) (one other : Found) (b c : List ℕ) : Type 0 where
+pub record SameReported (rows rows′ : ℕ) (one other : Found) (b c : List ℕ) : Type 0 where
   pub found : one ≡ other
   pub trace : take (valuesOf one .length) b ≡ take (valuesOf other .length) c
-  pub size : (valuesOf one .verdict ≡ Verdict.absent → ⊥) → rows ≡ rows′
+  pub size : (valuesOf one .verdict ≡ Verdict.noVerdict → ⊥) → rows ≡ rows′
 
 summary-same : {m n : Summary} → m .count ≡ n .count → m ≡ n
 summary-same e = λ i. record { count = e i }
@@ -173,7 +173,7 @@ module _ (signals rows rows′ : ℕ) where
   lines-injective : (one other : Found) (b c : List ℕ) → TraceInBuffer signals b one
       → TraceInBuffer signals c other
       → reportLines rows signals b one ≡ reportLines rows′ signals c other
-      → SameShown rows rows′ one other b c
+      → SameReported rows rows′ one other b c
   unfolding reportLines
   lines-injective (Refused r) (Refused s) b c p q e = record {
     found = ap Refused (refused-injective r s (head-eq-of-cons-eq (tail-eq-of-cons-eq e)));
@@ -210,7 +210,7 @@ module _ (signals rows rows′ : ℕ) where
   pub bytes-injective : (one other : Found) (b c : List ℕ) → TraceInBuffer signals b one
       → TraceInBuffer signals c other
       → reportBytes rows signals b one ≡ reportBytes rows′ signals c other
-      → SameShown rows rows′ one other b c
+      → SameReported rows rows′ one other b c
   bytes-injective one other b c p q same =
       lines-injective one other b c p q
       (sym (lines-ended (reportLines rows signals b one) (report-free signals rows b one))

@@ -13,10 +13,8 @@ use crate::second::LOST;
 use crate::second::PREDECESSOR;
 use crate::second::STATE;
 use crate::second::TRACE;
-use search::Found;
-use search::Verdict;
-use table::Outcome;
 use table::Refusal;
+use verdict::Found;
 
 // The bit of word n, unless the two are the same.
 pub fn unless(same: bool, n: u8) -> u16 {
@@ -26,34 +24,31 @@ pub fn unless(same: bool, n: u8) -> u16 {
     if n < 16 { 1 << n } else { 0 }
 }
 
-fn refusal_of(outcome: Outcome) -> Refusal {
-    match outcome {
-        Outcome::Accepted => Refusal { number: 0, line: 0 },
-        Outcome::Refused(refusal) => refusal,
-    }
-}
-
-fn verdict_of(verdict: Verdict) -> u8 {
-    match verdict {
-        Verdict::Absent => ABSENT,
-        Verdict::Sound => SOUND,
-        Verdict::Trapped => TRAPPED,
-    }
+fn compare_values(
+    refusal: Refusal,
+    verdict: u8,
+    length: u16,
+    lost: u16,
+    count: u16,
+    right: Expected,
+) -> u16 {
+    let refused = (refusal.number == right.number) & (refusal.line == 0);
+    unless(refused, 0)
+        | unless(verdict == right.verdict, 1)
+        | unless(length as usize == right.length, 2)
+        | unless(lost as usize == right.lost, 3)
+        | unless(count as usize == right.count, 4)
 }
 
 pub fn compare_answers(found: Found, right: Expected) -> u16 {
-    let outcome = found.outcome;
-    let refusal = refusal_of(outcome);
-    let verdict = found.verdict;
-    let length = found.length as usize;
-    let lost = found.lost as usize;
-    let count = found.count as usize;
-    let refused = (refusal.number == right.number) & (refusal.line == 0);
-    unless(refused, 0)
-        | unless(verdict_of(verdict) == right.verdict, 1)
-        | unless(length == right.length, 2)
-        | unless(lost == right.lost, 3)
-        | unless(count == right.count, 4)
+    let taken = Refusal { number: 0, line: 0 };
+    match found {
+        Found::Refused(refusal) => compare_values(refusal, ABSENT, 0, 0, 0, right),
+        Found::Sound(summary) => compare_values(taken, SOUND, 0, 0, summary.count, right),
+        Found::Trapped(summary, trap) => {
+            compare_values(taken, TRAPPED, trap.length, trap.lost, summary.count, right)
+        }
+    }
 }
 
 // The bit of word n, if place i of a list with so many places holds not the number that it should.

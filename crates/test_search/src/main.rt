@@ -2,110 +2,24 @@
 // given lengths. Every place of them is 7 before the call, so that one sees which places the search
 // sets and which it leaves. Above each case stands its answer, worked out by hand from document 01.
 // Letters of the signals `a c`: 0 neither, 1 `a`, 2 `c`, 3 both.
-use libc::STDOUT_FILENO;
-use search::Found;
-use search::Verdict;
-use table::Outcome;
+mod print;
+
+use print::PLACES;
+use print::print;
+use print::print_found;
+use print::print_sizes;
+use print::print_trace;
+use print::print_u8s;
+use print::print_u16s;
+use print::print_u64s;
 use table::Row;
 use table::Table;
 ghost use Prim.Native.Nat.{_≤_};
-
-// The most places that a case lends of one list.
-const PLACES: usize = 12;
-
-fn print(word: &[u8]) {
-    io::write_all(STDOUT_FILENO, word);
-}
-
-fn print_number(before: &[u8], n: u64) {
-    io::write_all(STDOUT_FILENO, before);
-    io::print_decimal(STDOUT_FILENO, n);
-}
-
-fn print_u64(n: u64) {
-    print_number(b" ", n);
-}
-
-fn print_u16(n: u16) {
-    print_u64(n as u64);
-}
-
-fn print_u8(n: u8) {
-    print_u64(n as u64);
-}
-
-// A word, and the first n numbers of a list behind it.
-fn print_u64s(word: &[u8], list: [u64; PLACES], n: usize) {
-    print(word);
-    for i in 0..PLACES {
-        if i < n {
-            print_u64(list[i]);
-        }
-    }
-}
-
-fn print_u16s(word: &[u8], list: [u16; PLACES], n: usize) {
-    print(word);
-    for i in 0..PLACES {
-        if i < n {
-            print_u16(list[i]);
-        }
-    }
-}
-
-fn print_u8s(word: &[u8], list: [u8; PLACES], n: usize) {
-    print(word);
-    for i in 0..PLACES {
-        if i < n {
-            print_u8(list[i]);
-        }
-    }
-}
-
-fn print_verdict(verdict: Verdict) {
-    match verdict {
-        Verdict::Absent => print(b"no verdict"),
-        Verdict::Sound => print(b"sound"),
-        Verdict::Trapped => print(b"trapped"),
-    }
-}
-
-// The first `length` letters of a buffer that has n.
-fn print_trace(length: u16, trace: [u8; PLACES], n: usize) {
-    if (length as usize) <= n {
-        print_u8s(b", trace", trace, length as usize);
-    } else {
-        print_number(b", trace longer than its buffer: ", length as u64);
-    }
-}
-
-// `trapped, 2 states, lost 1`, and before it `refused 21 line 0, ` if the call is refused.
-fn print_found(found: Found) {
-    let outcome = found.outcome;
-    if let Outcome::Refused(refusal) = outcome {
-        print_number(b"refused ", refusal.number as u64);
-        print_number(b" line ", refusal.line as u64);
-        print(b", ");
-    }
-    let verdict = found.verdict;
-    print_verdict(verdict);
-    print_number(b", ", found.count as u64);
-    print_number(b" states, lost ", found.lost as u64);
-}
 
 fn clipped(n: usize) -> usize
     ensures { λ r. ⌜ r ≤ 12 ⌝ }
 {
     if n < PLACES { n } else { PLACES }
-}
-
-fn print_sizes(a: usize, b: usize, c: usize, d: usize, t: usize) {
-    print_u64(a as u64);
-    print_u64(b as u64);
-    print_u64(c as u64);
-    print_u64(d as u64);
-    print_u64(t as u64);
-    print(b": ");
 }
 
 // One case: the sizes of states, predecessors, letters, lost numbers and the trace buffer. Lends
@@ -131,8 +45,8 @@ fn show(name: &[u8], table: Table, a: usize, b: usize, c: usize, d: usize, t: us
         &mut lost[..d],
         &mut trace[..t],
     );
-    print_found(found);
-    print_trace(found.length, trace, t);
+    let length = print_found(found);
+    print_trace(length, trace, t);
     print_u64s(b"\n  states", states, a);
     print_u16s(b"\n  befores", predecessors, b);
     print_u8s(b"\n  letters", letters, c);
@@ -257,7 +171,7 @@ fn delay_or_action() {
     show_file(b"delay_or_action.pnp", 6, 5, 4, 7, 3);
 }
 
-// Two traps, each behind two letters: 1 and 3 lead to (1, 0) and (61, 0), lost 1; 2 and 0 lead to
+// Two traps, each after two letters: 1 and 3 lead to (1, 0) and (61, 0), lost 1; 2 and 0 lead to
 // (0, 1) and (0, 61), lost 2, and from there 0 to (0, 62) and 1 to (1, 62).
 // Trapped, 7 states, lost 1, trace 1 3: states 0 1 256 61 15616 15872 15873, predecessors
 // 0 0 0 1 2 4 4, letters 0 1 2 3 0 0 1, lost 0 0 0 1 2 1 1. The first letter decides, not the last.

@@ -8,8 +8,8 @@ use lib.ListN.{length}
 use Rattle.table.specs.Valid.{tableFits}
 use Rattle.table.specs.declared.Table.{Table}
 use Rattle.traces.specs.Verdict.{ReachedMany, Trapped, Sound}
-use Rattle.search.specs.Answer.{Lent, Searched, roomOf, systemOf, cleared, traced, refusedFound}
-use Rattle.search.specs.Answer.{soundFound, trappedFound}
+use Rattle.verdict.specs.Found.{refusedFound, soundFound, trappedFound}
+use Rattle.search.specs.Lent.{Lent, Searched, roomOf, systemOf, cleared, traced}
 use Rattle.search.specs.inner.Computed.{entriesWithin, filled}
 use Rattle.demands.specs.Searching.{Fit}
 
@@ -24,7 +24,8 @@ pub data ComputedAnswer (table : Table) (lent : Lent) : Searched → Type 0 wher
       → ComputedAnswer table lent (record { found = refusedFound 20; lent = cleared lent })
   is21 : {n k : ℕ} {w : List ℕ} → Fit table lent n → Trapped (systemOf table) w k
       → length (lent .trace) < length w
-      → ComputedAnswer table lent (record { found = refusedFound 21; lent = withEntries table lent })
+      → ComputedAnswer table lent
+      (record { found = refusedFound 21; lent = withEntries table lent })
   isSound : {n : ℕ} → Fit table lent n → Sound (systemOf table)
       → ComputedAnswer table lent (record { found = soundFound n; lent = withEntries table lent })
   isTrapped : {n k : ℕ} {w : List ℕ} → Fit table lent n → Trapped (systemOf table) w k

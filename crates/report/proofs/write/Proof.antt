@@ -14,11 +14,11 @@ abbrev headed : tie.After-slice-known2 → tie.After-word
 headed c = c .before .before
 
 -- What is found, from the size under each verdict.
-abbrev sound : tie.After-sized → tie.After-found2
-sound c = c .before .before .before
+abbrev found-sound : tie.After-sized → tie.After-found2
+found-sound c = c .before .before .before
 
-abbrev trap : tie.After-sized2 → tie.After-found3
-trap c = c .before .before .before
+abbrev found-trapped : tie.After-sized2 → tie.After-found3
+found-trapped c = c .before .before .before
 
 -- The size, from the verdict's line.
 abbrev size-sound : tie.After-word-arg4 → tie.After-sized
@@ -30,20 +30,20 @@ size-trapped c = c .before .before .before .before
 word-requires-2 : tie.Need-word-requires-2
 word-requires-2 c κs =
     let size = size-sound c in
-    let word = headed (sound size .before .before) in
+    let word = headed (found-sound size .before .before) in
     record { low = omega (arith, size .sized .ensures .1, word .word .ensures .next-is) }
 
 word-requires-3 : tie.Need-word-requires-3
 word-requires-3 c κs =
     let size = size-trapped c in
-    let word = headed (trap size .before .before) in
+    let word = headed (found-trapped size .before .before) in
     record { low = omega (arith, size .sized2 .ensures .1, word .word .ensures .next-is) }
 
 trapped-requires : tie.Need-trapped-requires
 trapped-requires c κs =
     let verdict = c .before .before .before in
     let size = size-trapped (verdict .before) in
-    let word = headed (trap size .before .before) in
+    let word = headed (found-trapped size .before .before) in
     omega (
       arith,
       size .sized2 .ensures .1,
@@ -65,7 +65,7 @@ unfolding reportLines
 returns-2 c =
     let verdict = c .before .before in
     let size = size-sound (verdict .before) in
-    let found = sound size in
+    let found = found-sound size in
     let word = headed (found .before .before) in
     let lines = puts-lines (sizeLines _ _) _ (size .sized .ensures .0)
     (puts-last soundLine (verdict .word2 .ensures)) in
@@ -77,7 +77,7 @@ returns-3 c =
     let trapped = c .before .before in
     let verdict = trapped .before .before .before .before in
     let size = size-trapped (verdict .before) in
-    let found = trap size in
+    let found = found-trapped size in
     let word = headed (found .before .before) in
     let lines = puts-lines (sizeLines _ _) _ (size .sized2 .ensures .0)
     (puts-line trappedLine _ (verdict .word3 .ensures) (trapped .trapped .ensures)) in

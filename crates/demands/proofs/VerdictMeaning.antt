@@ -8,7 +8,7 @@ use Rattle.traces.specs.Trace.{run, Unbroken}
 use Rattle.traces.specs.Doomed.{Doomed, Breaks}
 use Rattle.traces.specs.Verdict.{Trapped, Sound}
 use Rattle.traces.proofs.Runs.{run-append, not-both, below-append, below-rest}
-use Rattle.demands.specs.Searching.{Dead, Shown, CanGoOn}
+use Rattle.demands.specs.Searching.{Dead, EarliestDead, CanGoOn}
 
 module _ (X : System) where
   -- An extension of an unbroken trace by no ticks is not broken.
@@ -35,15 +35,15 @@ module _ (X : System) where
       → Dead X w (d .ticks)
   doomed-dead w u d = breaks-dead w (d .ticks) u (d .breaks)
 
-  pub trapped-shown : (w : List ℕ) (k : ℕ) → Trapped X w k → Shown X w k
-  trapped-shown w k t = record {
+  pub trapped-earliest : (w : List ℕ) (k : ℕ) → Trapped X w k → EarliestDead X w k
+  trapped-earliest w k t = record {
     such = breaks-dead w k (t .fine) (t .lost .breaks);
     earliest = λ v n d. t .earliest v (d .fine) (dead-doomed v n d);
     least = λ n d. t .lost .least n (dead-positive w n d) (dead-breaks w n d);
   }
 
-  pub shown-trapped : (w : List ℕ) (k : ℕ) → Shown X w k → Trapped X w k
-  shown-trapped w k s = record {
+  pub earliest-trapped : (w : List ℕ) (k : ℕ) → EarliestDead X w k → Trapped X w k
+  earliest-trapped w k s = record {
     fine = s .such .fine;
     lost = record {
       positive = dead-positive w k (s .such);

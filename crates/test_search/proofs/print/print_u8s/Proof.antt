@@ -1,9 +1,9 @@
--- `test_search::print_u8s` is safe and ends. The invariant says nothing. The measure: how many
--- places are left. Assumes nothing but the contract of the C function `write`, which `io` calls.
+-- `print::print_u8s` is safe and ends. The invariant says nothing. The measure: how many places are
+-- left. Assumes nothing but the contract of the C function `write`, which `io` calls.
 use Prim.Native.Nat.{_-_}
 use borrow.Author.Needs.{needs}
-use Rattle.test_search.proofs.print_u8s.Statement.{statement}
-use Rattle.test_search.proofs.print_u8s.Tie as tie
+use Rattle.test_search.proofs.print.print_u8s.Statement.{statement}
+use Rattle.test_search.proofs.print.print_u8s.Tie as tie
 
 abbrev Inv-loop : tie.InvT-loop
 Inv-loop word n list i₀ i = Unit {0}

@@ -20,17 +20,18 @@ use Rattle.rows.specs.inner.Row.{fieldOf, fieldsOf, numberAmong, rowFields, row
 use Rattle.reader.specs.inner.File.{rowsFrom, rowsAnswer, bodyAnswer, fileAnswer, readAnswer}
 use Rattle.reader.proofs.Accepted.{accepted-file}
 use Rattle.reader.proofs.Fits.{file-fits}
-use Rattle.search.specs.Answer.{Lent, roomOf}
-use Rattle.report.specs.Report.{values, tickLines, reportLines}
-use Rattle.checker.specs.Answer.{answerOf, checkAnswer}
+use Rattle.verdict.proofs.Buffer.{written-front}
+use Rattle.search.specs.Lent.{Lent, roomOf}
+use Rattle.report.specs.Report.{signalValues, tickLines, reportLines}
+use Rattle.checker.specs.FileReport.{checkAnswer}
 use Rattle.demands.specs.Cases.{P, Q, S, report, delayed}
-use Rattle.demands.specs.Texts.{ruleP, ruleNotC, ruleQ, ruleS, ruleDelayed, fileOf, tableOf}
-use Rattle.demands.specs.Texts.{ReadAs, wholeOutput}
+use Rattle.demands.specs.Texts.{textP, textNotC, textQ, textS, textDelayed, fileOf}
+use Rattle.demands.specs.Texts.{tableOf, ReadAs, wholeOutput}
 use Rattle.demands.proofs.Starred.{report-trapped}
 
-pub boards-read : ReadAs (ruleP ∷ []) (P ∷ []) × ReadAs (ruleQ ∷ []) (Q ∷ [])
-    × ReadAs (ruleS ∷ []) (S ∷ []) × ReadAs (ruleDelayed ∷ []) delayed
-    × ReadAs (ruleP ∷ ruleNotC ∷ []) report
+pub boards-read : ReadAs (textP ∷ []) (P ∷ []) × ReadAs (textQ ∷ []) (Q ∷ [])
+    × ReadAs (textS ∷ []) (S ∷ []) × ReadAs (textDelayed ∷ []) delayed
+    × ReadAs (textP ∷ textNotC ∷ []) report
 unfolding readAnswer ended lines fileAnswer headerNumber bodyAnswer split signalsAnswer
     signalsNumber nameShaped nameOf allDistinct rowsAnswer rowsFrom rowAnswer count fieldsOf fieldOf
     numberAmong rowFields boundOf judge deep conditionOf reads digitAt nameAt isAt letterRun place
@@ -44,11 +45,17 @@ boards-read = (
 )
 
 pub whole-report : (lent : Lent) → 2 ≤ roomOf lent → 1 ≤ length (lent .trace)
-    → checkAnswer (fileOf (ruleP ∷ ruleNotC ∷ [])) lent .report ≡ wholeOutput
-unfolding checkAnswer answerOf reportLines tickLines values decimal digits bitAt
+    → checkAnswer (fileOf (textP ∷ textNotC ∷ [])) lent .report ≡ wholeOutput
+unfolding checkAnswer reportLines tickLines signalValues decimal digits bitAt
 whole-report lent room short =
     let file = boards-read .4 in
-    let table = tableOf (ruleP ∷ ruleNotC ∷ []) in
+    let table = tableOf (textP ∷ textNotC ∷ []) in
     let fits = file-fits _ table (accepted-file _ table (file .accepted-is)) in
     let searched = report-trapped table lent fits (file .signals) short (file .rows-are) room in
-    rw (file .accepted-is, searched, file .signals, file .count)
+    rw (
+      file .accepted-is,
+      searched,
+      written-front (1 ∷ []) (lent .trace) short,
+      file .signals,
+      file .count,
+    )

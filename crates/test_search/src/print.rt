@@ -1,0 +1,102 @@
+// How a case, its answer and its lists are printed.
+use libc::STDOUT_FILENO;
+use verdict::Found;
+
+// The most places that a case lends of one list.
+pub const PLACES: usize = 12;
+
+pub fn print(word: &[u8]) {
+    io::write_all(STDOUT_FILENO, word);
+}
+
+fn print_number(before: &[u8], n: u64) {
+    io::write_all(STDOUT_FILENO, before);
+    io::print_decimal(STDOUT_FILENO, n);
+}
+
+fn print_u64(n: u64) {
+    print_number(b" ", n);
+}
+
+fn print_u16(n: u16) {
+    print_u64(n as u64);
+}
+
+fn print_u8(n: u8) {
+    print_u64(n as u64);
+}
+
+// A word, and after it the first n numbers of a list.
+pub fn print_u64s(word: &[u8], list: [u64; PLACES], n: usize) {
+    print(word);
+    for i in 0..PLACES {
+        if i < n {
+            print_u64(list[i]);
+        }
+    }
+}
+
+pub fn print_u16s(word: &[u8], list: [u16; PLACES], n: usize) {
+    print(word);
+    for i in 0..PLACES {
+        if i < n {
+            print_u16(list[i]);
+        }
+    }
+}
+
+pub fn print_u8s(word: &[u8], list: [u8; PLACES], n: usize) {
+    print(word);
+    for i in 0..PLACES {
+        if i < n {
+            print_u8(list[i]);
+        }
+    }
+}
+
+// The first `length` letters of a buffer that has n.
+pub fn print_trace(length: u16, trace: [u8; PLACES], n: usize) {
+    if (length as usize) <= n {
+        print_u8s(b", trace", trace, length as usize);
+    } else {
+        print_number(b", trace longer than its buffer: ", length as u64);
+    }
+}
+
+fn print_numbers(count: u16, lost: u16) {
+    print_number(b", ", count as u64);
+    print_number(b" states, lost ", lost as u64);
+}
+
+// `trapped, 2 states, lost 1`, or `no verdict` with `refused 21 line 0, ` before it if the call is
+// refused. Answers how many letters the trace has.
+pub fn print_found(found: Found) -> u16 {
+    match found {
+        Found::Refused(refusal) => {
+            print_number(b"refused ", refusal.number as u64);
+            print_number(b" line ", refusal.line as u64);
+            print(b", no verdict");
+            print_numbers(0, 0);
+            0
+        }
+        Found::Sound(summary) => {
+            print(b"sound");
+            print_numbers(summary.count, 0);
+            0
+        }
+        Found::Trapped(summary, trap) => {
+            print(b"trapped");
+            print_numbers(summary.count, trap.lost);
+            trap.length
+        }
+    }
+}
+
+pub fn print_sizes(a: usize, b: usize, c: usize, d: usize, t: usize) {
+    print_u64(a as u64);
+    print_u64(b as u64);
+    print_u64(c as u64);
+    print_u64(d as u64);
+    print_u64(t as u64);
+    print(b": ");
+}
