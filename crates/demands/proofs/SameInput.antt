@@ -4,7 +4,7 @@ use Prim.Native.Nat.{ℕ, _≤_}
 use native.Mathlib.Omega.{arith}
 use mathlib.Core.Bool.{true, true≢false}
 use mathlib.Core.List.{List}
-use mathlib.Core.Path.{_≡_, refl, sym, ap, _∙_}
+use mathlib.Core.Path.{_≡_, refl, sym, _∙_}
 use lib.ListN.{length, take}
 use Rattle.table.specs.Valid.{tableFits, rowsOf}
 use Rattle.table.specs.declared.Table.{Table}
@@ -23,10 +23,15 @@ use Rattle.demands.proofs.SearchLaws.{fit-cases}
 -- buffer.
 module _ (table : Table) (one other : Lent) (lengths : SameLengths one other) where
   record SameAnswer (a : Searched) : Type 0 where
-    answer : Searched
-    says : ComputedAnswer table other answer
-    found : a .found ≡ answer .found
-    scratch : tableFits table ≡ true → SameScratch (a .lent) (answer .lent)
+    found : a .found ≡ searchAnswer table other .found
+    scratch : tableFits table ≡ true
+        → SameScratch (a .lent) (searchAnswer table other .lent)
+
+  same-answer : {a b : Searched} → ComputedAnswer table other b → a .found ≡ b .found
+      → (tableFits table ≡ true → SameScratch (a .lent) (b .lent)) → SameAnswer a
+  same-answer is found scratch =
+      let same = answer-is table other is in
+      record { found = rw same found; scratch = λ passes. rw same (scratch passes) }
 
   same-room : roomOf one ≡ roomOf other
   unfolding roomOf
@@ -56,52 +61,25 @@ module _ (table : Table) (one other : Lent) (lengths : SameLengths one other) wh
   }
 
   other-answer : {a : Searched} → ComputedAnswer table one a → SameAnswer a
-  other-answer (is17 p) = record {
-    answer = _;
-    says = is17 p;
-    found = refl;
-    scratch = λ q. absurd (true≢false (sym q ∙ p));
-  }
-  other-answer (is20 p m) = record {
-    answer = _;
-    says = is20 p (rw same-room at m);
-    found = refl;
-    scratch = λ q. same-cleared;
-  }
-  other-answer (is21 f t l) = record {
-    answer = _;
-    says = is21 (same-fit f) t (omega (arith, lengths .trace));
-    found = refl;
-    scratch = λ q. same-entries;
-  }
-  other-answer (isSound f s) = record {
-    answer = _;
-    says = isSound (same-fit f) s;
-    found = refl;
-    scratch = λ q. same-entries;
-  }
-  other-answer (isTrapped f t l) = record {
-    answer = _;
-    says = isTrapped (same-fit f) t (omega (arith, lengths .trace));
-    found = refl;
-    scratch = λ q. record {
-      states = same-entries .states;
-      predecessors = same-entries .predecessors;
-      letters = same-entries .letters;
-      lost = same-entries .lost;
-    };
-  }
+  other-answer (is17 p) = same-answer (is17 p) refl (λ q. absurd (true≢false (sym q ∙ p)))
+  other-answer (is20 p m) = same-answer (is20 p (rw same-room at m)) refl (λ q. same-cleared)
+  other-answer (is21 f t l) =
+      same-answer (is21 (same-fit f) t (omega (arith, lengths .trace))) refl (λ q. same-entries)
+  other-answer (isSound f s) = same-answer (isSound (same-fit f) s) refl (λ q. same-entries)
+  other-answer (isTrapped f t l) =
+      same-answer (isTrapped (same-fit f) t (omega (arith, lengths .trace))) refl (λ q. record {
+        states = same-entries .states;
+        predecessors = same-entries .predecessors;
+        letters = same-entries .letters;
+        lost = same-entries .lost;
+      })
 
   pub same-found : searchAnswer table one .found ≡ searchAnswer table other .found
-  same-found =
-      let r = other-answer (one-of-five table one) in
-      r .found ∙ ap (λ (a : Searched). a .found) (sym (answer-is table other (r .says)))
+  same-found = other-answer (one-of-five table one) .found
 
   pub same-scratch : tableFits table ≡ true
       → SameScratch (searchAnswer table one .lent) (searchAnswer table other .lent)
-  same-scratch p =
-      let r = other-answer (one-of-five table one) in
-      rw (answer-is table other (r .says)) (r .scratch p)
+  same-scratch = other-answer (one-of-five table one) .scratch
 
 -- Tables with the same signals and rows, and lent memory that holds the entries and the trace.
 module _ (one other : Table) (lent held : Lent) (n : ℕ) (fit : Fit one lent n)

@@ -11,17 +11,20 @@ use Rattle.text.specs.Lines.{ended}
 use Rattle.reader.specs.inner.File.{readAnswer}
 use Rattle.reader.specs.Reading.{accepted}
 
+-- "Row P is the first rule above. Q is `a,a,c,2,3,0,0,0,0,0,0,0`. S is
+-- `a,a,a,0,0,0,0,1,c,a,1,2`."
 abbrev pub textP : List ℕ
 textP = bytes "rule a,a,a,0,0,1,1,c,c,c,0,0"
-
-abbrev pub textNotC : List ℕ
-textNotC = bytes "rule a,a,a,0,0,1,1,!c,!c,!c,0,0"
 
 abbrev pub textQ : List ℕ
 textQ = bytes "rule a,a,c,2,3,0,0,0,0,0,0,0"
 
 abbrev pub textS : List ℕ
 textS = bytes "rule a,a,a,0,0,0,0,1,c,a,1,2"
+
+-- "The report's table" has P and a second rule; "One row `a,a,a,0,0,0,3,0,0,0,0,0`."
+abbrev pub textNotC : List ℕ
+textNotC = bytes "rule a,a,a,0,0,1,1,!c,!c,!c,0,0"
 
 abbrev pub textDelayed : List ℕ
 textDelayed = bytes "rule a,a,a,0,0,0,3,0,0,0,0,0"

@@ -14,10 +14,11 @@ use Rattle.verdict.specs.declared.Found.the-variants.{Refused, Sound, Trapped}
 use Rattle.verdict.specs.declared.Trap.{Trap}
 use Rattle.verdict.specs.Found.{valuesOf}
 
+-- "Output": its first line.
 abbrev pub heading : List ℕ
 heading = bytes "PNP report"
 
--- "`refused 13 line 3`, with its own number and line."
+-- "`refused 13 line 3`."
 abbrev pub refusedWord : List ℕ
 refusedWord = bytes "refused "
 
@@ -37,6 +38,7 @@ countWord = bytes "configurations "
 abbrev pub sizeLines : ℕ → ℕ → List (List ℕ)
 sizeLines rows count = (rulesWord ++ decimal rows) ∷ (countWord ++ decimal count) ∷ []
 
+-- "A sound table ends after `verdict sound`."
 abbrev pub soundLine : List ℕ
 soundLine = bytes "verdict sound"
 
@@ -57,7 +59,8 @@ signalValues zero k letter = []
 signalValues (suc n) k letter = (48 + bit (signalOn letter k)) ∷ signalValues n (suc k) letter
 
 abbrev pub tickLine : ℕ → ℕ → ℕ → List ℕ
-tickLine signals tick letter = tickWord ++ decimal tick ++ 32 ∷ signalValues signals 0 letter
+tickLine signals tick letter =
+    tickWord ++ decimal tick ++ (bytes " " ++ signalValues signals 0 letter)
 
 unfoldable pub tickLines : ℕ → ℕ → List ℕ → List (List ℕ)
 tickLines signals tick [] = []
@@ -70,7 +73,7 @@ trapLines signals buffer trap =
     tickLines signals 1 (take (trap .length) buffer) ++ (lostWord ++ decimal (trap .lost)) ∷ []
 
 -- What is found of a table with so many rows and signals. "A refused one prints the first line and
--- `refused ..`." "A sound table ends after `verdict sound`."
+-- `refused 13 line 3`, with its own number and line."
 unfoldable pub reportLines : ℕ → ℕ → List ℕ → Found → List (List ℕ)
 reportLines rows signals buffer (Refused r) = heading ∷ refusedLine (r .number) (r .line) ∷ []
 reportLines rows signals buffer (Sound summary) =

@@ -80,16 +80,18 @@ returns c = none-there (c .before .before .loop .inv) (c .if1 .taken)
 
 tick-line-requires : tie.Need-tick-line-requires Inv-loop μ-loop
 tick-line-requires c κs =
-    line-countable (c .before .before .before .before .loop .inv)
-    (c .before .before .before .loop-test .taken) (c .before .before .if1 .left)
-    (c .before .before .before .before .before .before .before .pre)
+    let some = c .before .before in
+    let loop = some .before .before in
+    line-countable (loop .loop .inv) (some .before .loop-test .taken) (some .if1 .left)
+    (loop .before .before .before .pre)
 
 loop-again : tie.Need-loop-again Inv-loop μ-loop
 loop-again c =
-    done-next (c .before .before .before .before .before .before .before .loop .inv)
-    (c .before .before .before .before .before .before .loop-test .taken)
-    (c .before .before .before .before .before .if1 .left)
-    (c .before .before .tick-line .ensures)
+    let line = c .before .before in
+    let some = line .before .before .before in
+    let loop = some .before .before in
+    done-next (loop .loop .inv) (some .before .loop-test .taken) (some .if1 .left)
+    (line .tick-line .ensures)
 
 same-length-2 : tie.Need-same-length-2 Inv-loop μ-loop
 same-length-2 c = putting-length (c .before .loop .inv .putting)

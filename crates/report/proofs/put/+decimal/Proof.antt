@@ -32,35 +32,43 @@ calls t = (
 module _ (t : ℕ) where
   byte-requires : lts.Need-byte-requires (calls t) (decimal-at t) decimal.Post
   byte-requires c κs =
-      let few = decimal-few (c .before .before .before .args .n) (c .before .if1 .taken) in
-      rw few at (c .before .before .before .pre .1)
+      let test = c .before in
+      let start = test .before .before in
+      rw (decimal-few (start .args .n) (test .if1 .taken)) at (start .pre .1)
 
   returns : lts.Need-returns (calls t) (decimal-at t) decimal.Post
-  returns c = rw (decimal-few (c .before .before .before .before .before .before .args .n)
-      (c .before .before .before .before .if1 .taken)) (c .before .before .byte .ensures)
+  returns c =
+      let digit = c .before .before in
+      let test = digit .before .before in
+      let start = test .before .before in
+      rw (decimal-few (start .args .n) (test .if1 .taken)) (digit .byte .ensures)
 
   decimal-requires : lts.Need-decimal-requires (calls t) (decimal-at t) decimal.Post
-  decimal-requires c κs = (
-    omega (arith, c .before .if1 .left),
-    countable-front _ (decimalOf (c .before .before .before .args .n / 10)) _
-        (rw (decimal-more (c .before .before .before .args .n) (c .before .if1 .left)) at
-        (c .before .before .before .pre .1)),
-  )
+  decimal-requires c κs =
+      let test = c .before in
+      let start = test .before .before in
+      let n = start .args .n in (
+        omega (arith, test .if1 .left),
+        countable-front _ (decimalOf (n / 10)) _
+            (rw (decimal-more n (test .if1 .left)) at (start .pre .1)),
+      )
 
   byte-requires-2 : lts.Need-byte-requires-2 (calls t) (decimal-at t) decimal.Post
   byte-requires-2 c κs =
-      countable-after (c .before .before .before .decimal .ensures) _
-      (rw (decimal-more (c .before .before .before .before .before .before .before .args .n)
-      (c .before .before .before .before .before .if1 .left)) at
-      (c .before .before .before .before .before .before .before .pre .1))
+      let front = c .before .before .before in
+      let test = front .before .before in
+      let start = test .before .before in
+      countable-after (front .decimal .ensures) _
+      (rw (decimal-more (start .args .n) (test .if1 .left)) at (start .pre .1))
 
   returns-2 : lts.Need-returns-2 (calls t) (decimal-at t) decimal.Post
   returns-2 c =
-      rw (decimal-more (c .before .before .before .before .before .before .before .before .before
-      .before .args .n) (c .before .before .before .before .before .before .before .before .if1
-      .left))
-      (puts-append (c .before .before .before .before .before .before .decimal .ensures)
-      (c .before .before .byte2 .ensures))
+      let last = c .before .before in
+      let front = last .before .before .before .before in
+      let test = front .before .before in
+      let start = test .before .before in
+      rw (decimal-more (start .args .n) (test .if1 .left))
+      (puts-append (front .decimal .ensures) (last .byte2 .ensures))
 
 pub +decimal-spec : {M : Type 1} → statement M
 +decimal-spec = close μ-decimal λ t. lts.spec (calls t) (decimal-at t) decimal.Post

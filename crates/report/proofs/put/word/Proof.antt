@@ -37,13 +37,13 @@ add-store c = omega (
 
 loop-again : tie.Need-loop-again Inv-loop μ-loop
 loop-again c =
-    let i = c .before .before .before .before .before .before .loop .i in
-    let bytes = c .before .before .before .before .before .before .before .before .before .args
-    .bytes .now in
-    putting-byte (c .before .before .before .before .before .before .loop .inv)
-    (drop-cons bytes i 0 (c .before .before .before .before .before .loop-test .taken) ∙ rw
-    (add-one i))
-    (omega arith) (c .before .before .store .ensures)
+    let store = c .before .before in
+    let test = store .before .before .before in
+    let loop = test .before in
+    let bytes = loop .before .before .before .args .bytes .now in
+    putting-byte (loop .loop .inv)
+    (drop-cons bytes (loop .loop .i) 0 (test .loop-test .taken) ∙ rw (add-one (loop .loop .i)))
+    (omega arith) (store .store .ensures)
 
 add-result : tie.Need-add-result Inv-loop μ-loop
 add-result c = omega (
