@@ -96,7 +96,7 @@ checked-short bytes lent short = go (read-told bytes)
   where
     go : Told bytes (readAnswer bytes) → length (checkAnswer bytes lent .report) ≤ mostReport
     go (taken table file e) = rw e (accepted-short table lent short (file-fits bytes table file))
-    go (turned number line small low e) =
+    go (turned number line one small low e) =
         let found = FoundRefused (record { number = number; line = line }) in
         let few = report-short 0 0 mostRoom (lent .trace) (omega arith) (omega arith) found
         (refused-few 0 number line (omega arith) (omega arith) (omega arith)) in

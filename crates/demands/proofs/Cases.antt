@@ -5,14 +5,19 @@ use mathlib.Core.List.{[], _∷_}
 use mathlib.Core.Path.{_≡_}
 use lib.ListN.{length, getD}
 use Rattle.letters.specs.Lists.{every}
-use Rattle.search.specs.Lent.{Lent, roomOf}
+use Rattle.reader.specs.Reading.{emptyTable}
+use Rattle.verdict.specs.Found.{refusedFound, soundFound}
+use Rattle.search.specs.Lent.{Lent, roomOf, cleared}
+use Rattle.search.specs.inner.Computed.{searchAnswer}
 use Rattle.checker.specs.FileReport.{checkAnswer}
 use Rattle.demands.specs.Cases.{P as rowP, Q as rowQ, S as rowS, report, delayed, isRight}
 use Rattle.demands.specs.Cases.{starred, CaseMeans}
 use Rattle.demands.specs.Texts.{textP, textNotC, textQ, textS, textDelayed, fileOf, ReadAs}
 use Rattle.demands.specs.Texts.{wholeOutput}
 use Rattle.demands.specs.Cases.Case.{after}
+use Rattle.demands.specs.Searching.{Entered}
 use Rattle.demands.proofs.Starred as Starred
+use Rattle.demands.proofs.Instances as Instances
 use Rattle.demands.proofs.WholeReport as WholeReport
 
 -- "The starred cases, gathered in a table that one proposition covers, over the definitions."
@@ -32,3 +37,25 @@ boards-read = WholeReport.boards-read
 pub whole-report : (lent : Lent) → 2 ≤ roomOf lent → 1 ≤ length (lent .trace)
     → checkAnswer (fileOf (textP ∷ textNotC ∷ [])) lent .report ≡ wholeOutput
 whole-report = WholeReport.whole-report
+
+-- No promise is empty: each other answer of the search has an instance too. "P alone: sound, two
+-- states; room 1 is refused with 20"; the report's table is 21 with no buffer, and the empty table
+-- is 17.
+module _ (lent : Lent) where
+  pub alone-sound : 2 ≤ roomOf lent
+      → (held : Lent) × Entered Instances.alone 2 lent held
+      × (searchAnswer Instances.alone lent ≡ record { found = soundFound 2; lent = held })
+  alone-sound = Instances.alone-sound lent
+
+  pub alone-many : roomOf lent ≡ 1
+      → searchAnswer Instances.alone lent ≡ record { found = refusedFound 20; lent = cleared lent }
+  alone-many = Instances.alone-many lent
+
+  pub both-refused : 2 ≤ roomOf lent → length (lent .trace) ≡ 0
+      → (held : Lent) × Entered Instances.both 2 lent held
+      × (searchAnswer Instances.both lent ≡ record { found = refusedFound 21; lent = held })
+  both-refused = Instances.both-refused lent
+
+  pub empty-refused : searchAnswer emptyTable lent
+      ≡ record { found = refusedFound 17; lent = lent }
+  empty-refused = Instances.empty-refused lent

@@ -4,24 +4,23 @@
 -- subject, in `Reading`, `Watching`, `Searching`, `Reporting` and `Cases`. Assumes nothing.
 use Prim.Native.Nat.{ℕ, suc, _<_, _≤_}
 use mathlib.Core.Bool.{true}
-use mathlib.Core.List.{List, [], _∷_, _++_}
+use mathlib.Core.List.{List}
 use mathlib.Core.Logic.{_⊎_, _↔_}
 use mathlib.Core.Path.{_≡_, ap}
 use lib.ListN.{length, getD, take}
 use Rattle.letters.specs.Letter.{letters}
+use Rattle.table.specs.Limits.{mostBytes}
 use Rattle.table.specs.Row.{noRow}
 use Rattle.table.specs.Valid.{tableFits, rulesFit, rowsOf}
 use Rattle.table.specs.declared.Row.{Row}
 use Rattle.table.specs.declared.Table.{Table}
 use Rattle.traces.specs.Trace.{AllBelow, run}
-use Rattle.traces.specs.Verdict.{ReachedMany, Trapped}
+use Rattle.traces.specs.Verdict.{ReachedMany}
 use Rattle.step.specs.declared.Phase.the-variants.{Waiting}
 use Rattle.step.specs.Tick.{rowSystem}
 use Rattle.watcher.specs.declared.Watch.{Watch}
 use Rattle.watcher.specs.Watch.{phasesOf, startWatch}
-use Rattle.text.specs.Bounds.{decimal}
-use Rattle.text.specs.Lines.{ended}
-use Rattle.reader.specs.Reading.{accepted, refusedFile}
+use Rattle.reader.specs.Reading.{accepted}
 use Rattle.reader.specs.Grammar.{IsFile}
 use Rattle.reader.specs.Right.{RightReading}
 use Rattle.reader.specs.inner.File.{readAnswer}
@@ -34,13 +33,12 @@ use Rattle.search.specs.inner.Computed.{searchAnswer}
 use Rattle.demands.specs.Watching.{recordAfter, Accepted}
 use Rattle.demands.specs.Searching.{searchValues, Dead, EarliestDead, CanGoOn, Fit}
 use Rattle.demands.specs.Searching.{Entered, RightAnswer, SameLengths, SameScratch}
-use Rattle.report.specs.Report.{heading, refusedLine, sizeLines, soundLine, trappedLine, tickLines}
-use Rattle.report.specs.Report.{lostWord}
-use Rattle.checker.specs.FileReport.{FileReport, checkAnswer}
+use Rattle.demands.specs.Reporting.{RightReport, ProgramPrints}
+use Rattle.checker.specs.FileReport.{FileReport, checkAnswer, programLent}
 use Rattle.demands.proofs.Reading as Reading
 use Rattle.demands.proofs.Watching as Watching
 use Rattle.demands.proofs.Searching as Searching
-use Rattle.demands.proofs.Reporting as Reporting
+use Rattle.demands.proofs.Reported as Reported
 use Rattle.demands.proofs.WatchLaws as WatchLaws
 use Rattle.demands.proofs.Answers as Answers
 use Rattle.demands.proofs.SearchLaws as SearchLaws
@@ -160,42 +158,30 @@ module _ (table : Table) (one other : Lent) (lengths : SameLengths one other) wh
 module _ (one other : Table) (lent held : Lent) (n : ℕ) (fit : Fit one lent n)
     (passes : tableFits other ≡ true) (signals : one .signals ≡ other .signals)
     (rows : rowsOf one ≡ rowsOf other) (room : n ≤ roomOf held)
-    (short : (w : List ℕ) (k : ℕ) → Trapped (systemOf one) w k
+    (short : (w : List ℕ) (k : ℕ) → EarliestDead (systemOf one) w k
     → (length w ≤ length (lent .trace)) × (length w ≤ length (held .trace))) where
   pub rows-choose : searchAnswer one lent .found ≡ searchAnswer other held .found
-  rows-choose = SameInput.rows-choose one other lent held n fit passes signals rows room short
+  rows-choose = SameInput.rows-choose one other lent held n fit passes signals rows room
+      (λ w k t. short w k (Searching.trapped-means (systemOf one) w k .0 t))
 
   pub rows-show : take (searchValues one lent .length) (searchAnswer one lent .lent .trace)
       ≡ take (searchValues one lent .length) (searchAnswer other held .lent .trace)
-  rows-show = SameInput.rows-show one other lent held n fit passes signals rows room short
+  rows-show = SameInput.rows-show one other lent held n fit passes signals rows room
+      (λ w k t. short w k (Searching.trapped-means (systemOf one) w k .0 t))
 
--- Point 5, the report: from the bytes of any file to the bytes that are printed, in any lent
--- memory.
+-- Point 5, the report: from the bytes of any file to the bytes that are printed, in any lent memory.
+-- A file has one of the two reports of `RightReport`, and no other.
 module _ (bytes : List ℕ) (lent : Lent) where
-  -- "A refused one prints the first line and `refused 13 line 3`, with its own number and line";
-  pub prints-refused : (number line : ℕ) → readAnswer bytes ≡ refusedFile number line
-      → checkAnswer bytes lent .report ≡ ended (heading ∷ refusedLine number line ∷ [])
-  prints-refused number line is =
-      ap (λ (f : FileReport). f .report) (Reporting.refused-report bytes lent number line is)
+  pub report-answered : RightReport bytes lent (checkAnswer bytes lent)
+  report-answered = Reported.report-answered bytes lent
 
-  module _ (table : Table) (file : IsFile bytes table) where
-    -- so does a table with more states than room;
-    pub prints-many : ReachedMany (systemOf table) (suc (roomOf lent))
-        → checkAnswer bytes lent .report ≡ ended (heading ∷ refusedLine 20 0 ∷ [])
-    prints-many = Reporting.many-report bytes lent table file
+  pub report-only : (f : FileReport) → RightReport bytes lent f → checkAnswer bytes lent ≡ f
+  report-only = Reported.report-only bytes lent
 
-    -- "a sound table ends after `verdict sound`"; a trapped one has its trace and its number.
-    module _ (n : ℕ) (fit : Fit table lent n) where
-      pub prints-sound : CanGoOn (systemOf table)
-          → checkAnswer bytes lent .report
-          ≡ ended (heading ∷ sizeLines (table .count) n ++ soundLine ∷ [])
-      prints-sound on = Reporting.sound-report bytes lent table file n fit
-          (Searching.sound-means (systemOf table) .1 on)
+  -- The program reads no more of a file than its first 4,097 bytes: they have the report of all.
+  pub first-bytes : checkAnswer (take (suc mostBytes) bytes) lent ≡ checkAnswer bytes lent
+  first-bytes = Reported.first-bytes bytes lent
 
-      pub prints-trapped : (w : List ℕ) (k : ℕ) → EarliestDead (systemOf table) w k
-          → length w ≤ length (lent .trace)
-          → checkAnswer bytes lent .report
-          ≡ ended (heading ∷ sizeLines (table .count) n ++ trappedLine
-          ∷ tickLines (table .signals) 1 w ++ (lostWord ++ decimal k) ∷ [])
-      prints-trapped w k shown = Reporting.trapped-report bytes lent table file n fit w k
-          (Searching.trapped-means (systemOf table) w k .1 shown)
+-- What `checktable` can print: never 17, 18, 19 or 21, nor an answer that is none.
+pub program-prints : (bytes : List ℕ) → ProgramPrints (checkAnswer bytes programLent .report)
+program-prints = Reported.program-prints

@@ -11,6 +11,8 @@ use Rattle.demands.specs.inner.Answers.ComputedAnswer.{is17 as computed1
 use Rattle.demands.specs.inner.Answers.ComputedAnswer.{is20 as computed20, is21 as computed21}
 use Rattle.demands.specs.inner.Answers.ComputedAnswer.{isSound as computedSound}
 use Rattle.demands.specs.inner.Answers.ComputedAnswer.{isTrapped as computedTrapped}
+use Rattle.demands.proofs.VerdictMeaning.{trapped-earliest, earliest-trapped}
+use Rattle.demands.proofs.VerdictMeaning.{sound-goes-on, goes-on-sound}
 use Rattle.demands.proofs.Entries.{scratch-held, filled-lengths}
 use Rattle.demands.proofs.ScratchLaws.{scratch-same}
 
@@ -53,13 +55,16 @@ module _ (table : Table) (lent : Lent) where
   pub described : {a : Searched} → ComputedAnswer table lent a → RightAnswer table lent a
   described (computed17 p) = is17 p
   described (computed20 p m) = is20 p m
-  described (computed21 f t l) = is21 f t l (entries-entered _ f)
-  described (computedSound f s) = isSound f s (entries-entered _ f)
-  described (computedTrapped f t l) = isTrapped f t l (entries-entered _ f)
+  described (computed21 f t l) = is21 f (trapped-earliest _ _ _ t) l (entries-entered _ f)
+  described (computedSound f s) = isSound f (sound-goes-on _ s) (entries-entered _ f)
+  described (computedTrapped f t l) = isTrapped f (trapped-earliest _ _ _ t) l (entries-entered _ f)
 
   pub computed : {a : Searched} → RightAnswer table lent a → ComputedAnswer table lent a
   computed (is17 p) = computed17 p
   computed (is20 p m) = computed20 p m
-  computed (is21 {held = held} f t l e) = rw (entered-is _ held f e) (computed21 f t l)
-  computed (isSound {held = held} f s e) = rw (entered-is _ held f e) (computedSound f s)
-  computed (isTrapped {held = held} f t l e) = rw (entered-is _ held f e) (computedTrapped f t l)
+  computed (is21 {held = held} f t l e) =
+      rw (entered-is _ held f e) (computed21 f (earliest-trapped _ _ _ t) l)
+  computed (isSound {held = held} f s e) =
+      rw (entered-is _ held f e) (computedSound f (goes-on-sound _ s))
+  computed (isTrapped {held = held} f t l e) =
+      rw (entered-is _ held f e) (computedTrapped f (earliest-trapped _ _ _ t) l)

@@ -21,5 +21,7 @@ pub mod StateNumbers
 pub mod ScratchLaws
 pub mod Described
 pub mod ReportLaws
+pub mod Reported
 pub mod Starred
 pub mod WholeReport
+pub mod Instances

@@ -5,7 +5,7 @@ use mathlib.Core.Path.{_≡_}
 use lib.ListN.{length, take}
 use native.Mathlib.Nat.{lt-of-lt-of-le}
 use Rattle.table.specs.declared.Table.{Table}
-use Rattle.traces.specs.Verdict.{ReachedMany, Trapped, Sound}
+use Rattle.traces.specs.Verdict.{ReachedMany, Trapped}
 use Rattle.text.specs.Bounds.{decimal}
 use Rattle.text.specs.Lines.{ended}
 use Rattle.reader.specs.Reading.{refusedFile}
@@ -21,9 +21,9 @@ use Rattle.report.specs.Report.{lostWord, reportBytes, TraceInBuffer}
 use Rattle.report.proofs.Injective.{SameReported, bytes-injective}
 use Rattle.checker.specs.FileReport.{checkAnswer, programLent, mostReport}
 use Rattle.checker.proofs.ReportLength as ReportLength
-use Rattle.demands.specs.Searching.{Fit}
+use Rattle.demands.specs.Searching.{EarliestDead, CanGoOn, Fit}
 use Rattle.demands.proofs.ReportLaws as Laws
-use Rattle.demands.proofs.Searching.{trace-low}
+use Rattle.demands.proofs.Searching.{trapped-means, sound-means, trace-low}
 
 -- The report. Different findings give different reports: where the bytes are the same, so are what
 -- is found, its trace and, under a verdict, the number of rows, for one number of signals. What the
@@ -68,17 +68,20 @@ module _ (bytes : List ℕ) (lent : Lent) where
 
     -- "A sound table ends after `verdict sound`."
     module _ (n : ℕ) (fit : Fit table lent n) where
-      pub sound-report : Sound (systemOf table)
+      pub sound-report : CanGoOn (systemOf table)
           → checkAnswer bytes lent .report
           ≡ ended (heading ∷ sizeLines (table .count) n ++ soundLine ∷ [])
-      sound-report = Laws.sound-report bytes lent table file n fit
+      sound-report on =
+          Laws.sound-report bytes lent table file n fit (sound-means (systemOf table) .1 on)
 
-      pub trapped-report : (w : List ℕ) (k : ℕ) → Trapped (systemOf table) w k
+      -- A trapped one has its trace and its lost number.
+      pub trapped-report : (w : List ℕ) (k : ℕ) → EarliestDead (systemOf table) w k
           → length w ≤ length (lent .trace)
           → checkAnswer bytes lent .report
           ≡ ended (heading ∷ sizeLines (table .count) n ++ trappedLine
           ∷ tickLines (table .signals) 1 w ++ (lostWord ++ decimal k) ∷ [])
-      trapped-report = Laws.trapped-report bytes lent table file n fit
+      trapped-report w k shown = Laws.trapped-report bytes lent table file n fit w k
+          (trapped-means (systemOf table) w k .1 shown)
 
 -- "The program lends room 4,096 and a trace buffer of as many bytes": it always shows the trace,
 -- never refused with 21, and its own buffer holds every report.

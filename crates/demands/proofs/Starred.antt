@@ -108,6 +108,12 @@ pub starred-means : (i : ℕ) → i < length starred → CaseMeans (getD starred
 starred-means i h = right-means _ (every-at isRight starred i (after P [] 0) starred-right h)
 
 -- "The report's table: trapped, trace 1, lost 1, two states."
+pub report-right : (room : ℕ) → 2 ≤ room → Right (tableSystem 2 report) room (trapped 2 (1 ∷ []) 1)
+unfolding starred
+report-right room fits =
+    table-right report (1 ∷ []) 1 2 (every-at isRight starred 14 (after P [] 0) starred-right
+    (omega arith)) room fits
+
 module _ (table : Table) (lent : Lent) (passes : tableFits table ≡ true)
     (signals : table .signals ≡ 2) (short : 1 ≤ length (lent .trace)) where
   pub report-trapped : rowsOf table ≡ report → 2 ≤ roomOf lent

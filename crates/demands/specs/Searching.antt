@@ -11,7 +11,7 @@ use Rattle.traces.specs.System.{System}
 use Rattle.traces.specs.Trace.{AllBelow, run, Unbroken, Reached}
 use Rattle.traces.specs.Order.{Earlier, NotAfter}
 use Rattle.traces.specs.Doomed.{Doomed, Lost}
-use Rattle.traces.specs.Verdict.{ReachedMany, ReachedCount, Trapped, Sound}
+use Rattle.traces.specs.Verdict.{ReachedMany, ReachedCount}
 use Rattle.letters.specs.Lists.{ZeroFrom}
 use Rattle.step.specs.declared.Phase.{Phase}
 use Rattle.step.specs.Tick.{startPhases}
@@ -129,13 +129,14 @@ pub data RightAnswer (table : Table) (lent : Lent) : Searched → Type 0 where
       → RightAnswer table lent (record { found = refusedFound 17; lent = lent })
   is20 : tableFits table ≡ true → ReachedMany (systemOf table) (suc (roomOf lent))
       → RightAnswer table lent (record { found = refusedFound 20; lent = cleared lent })
-  is21 : {n k : ℕ} {w : List ℕ} {held : Lent} → Fit table lent n → Trapped (systemOf table) w k
+  is21 : {n k : ℕ} {w : List ℕ} {held : Lent} → Fit table lent n
+      → EarliestDead (systemOf table) w k
       → length (lent .trace) < length w → Entered table n lent held
       → RightAnswer table lent (record { found = refusedFound 21; lent = held })
-  isSound : {n : ℕ} {held : Lent} → Fit table lent n → Sound (systemOf table)
+  isSound : {n : ℕ} {held : Lent} → Fit table lent n → CanGoOn (systemOf table)
       → Entered table n lent held
       → RightAnswer table lent (record { found = soundFound n; lent = held })
   isTrapped : {n k : ℕ} {w : List ℕ} {held : Lent} → Fit table lent n
-      → Trapped (systemOf table) w k → length w ≤ length (lent .trace)
+      → EarliestDead (systemOf table) w k → length w ≤ length (lent .trace)
       → Entered table n lent held
       → RightAnswer table lent (record { found = trappedFound n w k; lent = traced w held })

@@ -1,5 +1,5 @@
 -- The reader accepts exactly the files of the grammar, each as its table. Assumes nothing.
-use Prim.Native.Nat.{ℕ, _+_, _<_}
+use Prim.Native.Nat.{ℕ, _+_, _<_, _≤_}
 use native.Mathlib.Omega.{arith}
 use mathlib.Core.Bool.{Bool, true, false, true≢false}
 use mathlib.Core.List.{List, map}
@@ -11,7 +11,7 @@ use Rattle.table.specs.declared.Outcome.{Outcome}
 use Rattle.table.specs.declared.Outcome.the-variants.{Accepted, Refused}
 use Rattle.table.specs.declared.Table.{Table}
 use Rattle.conditions.specs.Condition.{nameOf}
-use Rattle.rows.proofs.Rules.{fault-few}
+use Rattle.rows.proofs.Rules.{fault-among}
 use Rattle.reader.specs.Reading.{accepted, refusedFile}
 use Rattle.reader.specs.Grammar.{IsFile}
 use Rattle.reader.specs.Right.{RightReading, is1, is2, is3, is4, is5, is6missing, is6, is7}
@@ -21,29 +21,29 @@ use Rattle.reader.specs.declared.Reading.{Reading}
 use Rattle.reader.proofs.Only.{read-only}
 use Rattle.reader.proofs.Found.{read-answered}
 
--- A right answer is a table, that of the file, or a refusal, with a small number and line.
+-- A right answer is a table, that of the file, or a refusal, by one of 1 to 16, with a small line.
 pub data Told (bytes : List ℕ) (r : Reading) : Type 0 where
   taken : (table : Table) → IsFile bytes table → r ≡ accepted table → Told bytes r
-  turned : (number line : ℕ) → number < 100 → line < 100 → r ≡ refusedFile number line
-      → Told bytes r
+  turned : (number line : ℕ) → 1 ≤ number → number ≤ 16 → line < 100
+      → r ≡ refusedFile number line → Told bytes r
 
 right-told : (bytes : List ℕ) (r : Reading) → RightReading bytes r → Told bytes r
-right-told bytes r (is1 e) = turned 1 0 (omega arith) (omega arith) refl
-right-told bytes r (is2 h) = turned 2 0 (omega arith) (omega arith) refl
-right-told bytes r (is3 before last e other few) = turned 3 0 (omega arith) (omega arith) refl
-right-told bytes r (is4 l h) = turned 4 1 (omega arith) (omega arith) refl
-right-told bytes r (is5 l h other) = turned 5 1 (omega arith) (omega arith) refl
-right-told bytes r (is6missing l) = turned 6 2 (omega arith) (omega arith) refl
-right-told bytes r (is6 l h) = turned 6 2 (omega arith) (omega arith) refl
-right-told bytes r (is7 n many) = turned 7 2 (omega arith) (omega arith) refl
-right-told bytes r (is8 n few twice) = turned 8 2 (omega arith) (omega arith) refl
+right-told bytes r (is1 e) = turned 1 0 (omega arith) (omega arith) (omega arith) refl
+right-told bytes r (is2 h) = turned 2 0 (omega arith) (omega arith) (omega arith) refl
+right-told bytes r (is3 before last e other few) = turned 3 0 (omega arith) (omega arith) (omega arith) refl
+right-told bytes r (is4 l h) = turned 4 1 (omega arith) (omega arith) (omega arith) refl
+right-told bytes r (is5 l h other) = turned 5 1 (omega arith) (omega arith) (omega arith) refl
+right-told bytes r (is6missing l) = turned 6 2 (omega arith) (omega arith) (omega arith) refl
+right-told bytes r (is6 l h) = turned 6 2 (omega arith) (omega arith) (omega arith) refl
+right-told bytes r (is7 n many) = turned 7 2 (omega arith) (omega arith) (omega arith) refl
+right-told bytes r (is8 n few twice) = turned 8 2 (omega arith) (omega arith) (omega arith) refl
 right-told bytes r (is9 line rest b are full) =
-    turned 9 (mostRows + 3) (omega arith) (omega arith) refl
+    turned 9 (mostRows + 3) (omega arith) (omega arith) (omega arith) refl
 right-told bytes r (isFault {names} {rules} {number} line rest b are low f) =
-    turned number (length rules + 3)
-    (omega (arith, fault-few (map nameOf names) (width (length names)) line number f))
+    let among = fault-among (map nameOf names) (width (length names)) line number f in
+    turned number (length rules + 3) (omega (arith, among .0)) (omega (arith, among .1))
     (omega arith) refl
-right-told bytes r (is16 b) = turned 16 3 (omega arith) (omega arith) refl
+right-told bytes r (is16 b) = turned 16 3 (omega arith) (omega arith) (omega arith) refl
 right-told bytes r (isTable {table} f) = taken table f refl
 
 pub read-told : (bytes : List ℕ) → Told bytes (readAnswer bytes)
@@ -61,7 +61,7 @@ module _ (bytes : List ℕ) (table : Table) where
       go : Told bytes (readAnswer bytes) → IsFile bytes table
       go (taken other f same) =
           subst (IsFile bytes) (ap (λ (r : Reading). r .table) (sym same ∙ e)) f
-      go (turned number line small low same) =
+      go (turned number line one small low same) =
           absurd (true≢false (sym (ap (λ (r : Reading). isAccepted (r .outcome)) (sym same ∙ e))))
 
   pub file-accepted : IsFile bytes table → readAnswer bytes ≡ accepted table

@@ -18,7 +18,6 @@ ghost use Rattle.report.specs.inner.Puts.{Puts, Countable};
 ghost use Rattle.report.specs.Report.{refusedLine, sizeLines, tickLine, tickLines};
 ghost use Rattle.report.specs.Report.{trapLines, reportBytes};
 
-
 // A word, a number and the line's end.
 fn numbered(out: &mut [u8], at: usize, word: &[u8], n: u16) -> usize
     requires { ⌜ Countable at (now word ++ decimal n ++ lineEnd ∷ []) ⌝ }

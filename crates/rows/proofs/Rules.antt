@@ -237,19 +237,21 @@ module _ (names : List Name) (n : ℕ) where
 
 -- The numbers that a line can get.
 module _ (names : List Name) (n : ℕ) where
-  first-few : {kinds : List FieldKind} {fields : List (List ℕ)} {number : ℕ}
-      → FirstFault names n kinds fields number → number ≤ 14
-  first-few (noCondition {xs} {number} h) =
+  first-among : {kinds : List FieldKind} {fields : List (List ℕ)} {number : ℕ}
+      → FirstFault names n kinds fields number → (11 ≤ number) × (number ≤ 14)
+  first-among (noCondition {xs} {number} h) =
       among (judge-number names n xs number (right-judge names n xs (NoCondition number) h))
     where
-      among : (number ≡ 11) ⊎ ((number ≡ 12) ⊎ (number ≡ 13)) → number ≤ 14
-      among (inl e) = omega arith
-      among (inr (inl e)) = omega arith
-      among (inr (inr e)) = omega arith
-  first-few (noBound h) = omega arith
-  first-few (later v h first) = first-few first
+      among : (number ≡ 11) ⊎ ((number ≡ 12) ⊎ (number ≡ 13)) → (11 ≤ number) × (number ≤ 14)
+      among (inl e) = (omega arith, omega arith)
+      among (inr (inl e)) = (omega arith, omega arith)
+      among (inr (inr e)) = (omega arith, omega arith)
+  first-among (noBound h) = (omega arith, omega arith)
+  first-among (later v h first) = first-among first
 
-  pub fault-few : (line : List ℕ) (number : ℕ) → RowFault names n line number → number ≤ 15
-  fault-few line number (misshapen h) = omega arith
-  fault-few line number (inField rule first) = omega (arith, first-few first)
-  fault-few line number (crossed h other) = omega arith
+  pub fault-among : (line : List ℕ) (number : ℕ) → RowFault names n line number
+      → (10 ≤ number) × (number ≤ 15)
+  fault-among line number (misshapen h) = (omega arith, omega arith)
+  fault-among line number (inField rule first) =
+      let few = first-among first in (omega (arith, few .0), omega (arith, few .1))
+  fault-among line number (crossed h other) = (omega arith, omega arith)

@@ -1,0 +1,86 @@
+-- The report of a file, described without computing, both ways; what the program can print; and
+-- that the first bytes of a file that is too long are enough. Assumes nothing.
+use Prim.Native.Nat.{ℕ, suc, _<_, _≤_}
+use native.Mathlib.Decide.{decLe}
+use native.Mathlib.Nat.{lt-irrefl, lt-of-lt-of-le}
+use native.Mathlib.Omega.{arith}
+use mathlib.Core.Bool.{true≢false}
+use mathlib.Core.List.{List}
+use mathlib.Core.Path.{_≡_, sym, ap, subst, _∙_}
+use lib.ListN.{length, take}
+use lib.Seq.{length-take-le, take-all}
+use Rattle.table.specs.Limits.{mostBytes}
+use Rattle.table.specs.declared.Table.{Table}
+use Rattle.reader.specs.Grammar.{IsFile}
+use Rattle.reader.specs.Right.{RightReading, is2}
+use Rattle.reader.specs.inner.File.{readAnswer}
+use Rattle.reader.proofs.Accepted.{Told, taken, turned, read-told, file-accepted}
+use Rattle.reader.proofs.Fits.{file-fits}
+use Rattle.reader.proofs.Found.{read-answered}
+use Rattle.reader.proofs.Only.{read-only}
+use Rattle.verdict.proofs.Buffer.{written-front}
+use Rattle.search.specs.Lent.{Lent, Searched}
+use Rattle.report.specs.Report.{reportLines, reportBytes}
+use Rattle.checker.specs.FileReport.{FileReport, checkAnswer, programLent}
+use Rattle.demands.specs.Reporting.{RightReport, ProgramPrints}
+use Rattle.demands.specs.Reporting.RightReport.{refused, searched}
+use Rattle.demands.specs.Reporting.ProgramPrints.{refused as refusal, many, sound, trapped}
+use Rattle.demands.specs.inner.Answers.{ComputedAnswer}
+use Rattle.demands.specs.inner.Answers.ComputedAnswer.{is17, is20, is21, isSound, isTrapped}
+use Rattle.demands.proofs.Answers.{one-of-five, answer-is}
+use Rattle.demands.proofs.Described.{described, computed}
+use Rattle.demands.proofs.Reporting.{program-shows}
+
+module _ (bytes : List ℕ) (lent : Lent) where
+  by-reading : Told bytes (readAnswer bytes) → RightReport bytes lent (checkAnswer bytes lent)
+  unfolding checkAnswer reportLines
+  by-reading (taken table file e) =
+      rw e (searched file (described table lent (one-of-five table lent)))
+  by-reading (turned number line one small low e) =
+      rw e (refused (subst (RightReading bytes) e (read-answered bytes)))
+
+  pub report-answered : RightReport bytes lent (checkAnswer bytes lent)
+  report-answered = by-reading (read-told bytes)
+
+  pub report-only : (f : FileReport) → RightReport bytes lent f → checkAnswer bytes lent ≡ f
+  unfolding checkAnswer reportLines
+  report-only f (refused right) = rw (read-only bytes _ right)
+  report-only f (searched {table = table} file right) =
+      rw (file-accepted bytes table file, answer-is table lent (computed table lent right))
+
+-- What the program can print.
+module _ (bytes : List ℕ) where
+  by-answer : (table : Table) → IsFile bytes table → {a : Searched}
+      → ComputedAnswer table programLent a
+      → ProgramPrints (reportBytes (table .count) (table .signals) (a .lent .trace) (a .found))
+  unfolding reportLines
+  by-answer table file (is17 p) = absurd (true≢false (sym (file-fits bytes table file) ∙ p))
+  by-answer table file (is20 p m) = many
+  by-answer table file (is21 {k = k} {w = w} f t l) =
+      absurd (lt-irrefl _ (lt-of-lt-of-le l (program-shows table _ f w k t)))
+  by-answer table file (isSound f s) = sound _ _
+  by-answer table file (isTrapped {w = w} f t l) =
+      rw (written-front w (programLent .trace) l) (trapped _ _ _ w _)
+
+  by-told : Told bytes (readAnswer bytes)
+      → ProgramPrints (checkAnswer bytes programLent .report)
+  unfolding checkAnswer reportLines
+  by-told (taken table file e) = rw e (by-answer table file (one-of-five table programLent))
+  by-told (turned number line one small low e) = rw e (refusal number line one small)
+
+  pub program-prints : ProgramPrints (checkAnswer bytes programLent .report)
+  program-prints = by-told (read-told bytes)
+
+-- The first bytes of a file that is too long say so.
+pub first-bytes : (bytes : List ℕ) (lent : Lent)
+    → checkAnswer (take (suc mostBytes) bytes) lent ≡ checkAnswer bytes lent
+first-bytes bytes lent = go (decLe (length bytes) (suc mostBytes))
+  where
+    go : Dec (length bytes ≤ suc mostBytes)
+        → checkAnswer (take (suc mostBytes) bytes) lent ≡ checkAnswer bytes lent
+    go (yes h) = ap (λ (l : List ℕ). checkAnswer l lent) (take-all (suc mostBytes) bytes h)
+    go (no h) =
+        let long : mostBytes < length bytes = omega arith in
+        let taken = length-take-le (suc mostBytes) bytes (omega arith) in
+        report-only (take (suc mostBytes) bytes) lent _ (refused (is2 (omega (arith, taken))))
+        ∙ sym (report-only bytes lent _ (refused (is2 long)))
