@@ -1,8 +1,7 @@
 -- Bits of numbers, and numbers as sets of letters. Assumes nothing.
 use Prim.Native.Nat.{ℕ, zero, suc, _+_, _*_, _/_, _%_, _^_, _<_, _≤_}
 use native.Mathlib.Decide.{decLt}
-use native.Mathlib.Nat.{div-one, div-eq-of-lt, lt-of-lt-of-le, one-mul}
-use native.Mathlib.Nat.{div-lt-iff-lt-mul}
+use native.Mathlib.Nat.{div-one, div-eq-of-lt, lt-of-lt-of-le, one-mul, div-lt-iff-lt-mul}
 use native.Mathlib.Omega.{arith}
 use native.Mathlib.Numerals.{one-add}
 use mathlib.Core.Bool.{Bool, true, false, true≢false}
@@ -10,7 +9,7 @@ use mathlib.Core.Path.{_≡_, refl, sym, ap, _∙_}
 use borrow.Author.Tests.{lt-ltb, ltb-true, eqb-false}
 use lib.Dec.{eqb, lit<}
 use lib.Pow.{pow-pos, pow-mono, shr-shr, shl-exact}
-use Rattle.letters.specs.Letter.{bitAt, bit, inSet, letters, setFits}
+use Rattle.letters.specs.Letter.{bitAt, bit, inSet, letters, setFits, setBits}
 
 -- Bit 0, and the bits above it.
 pub bit-zero : (x : ℕ) → bitAt x 0 ≡ eqb (x % 2) 1
@@ -49,9 +48,13 @@ eqb-bit false = refl
 pub bit-injective : (a b : Bool) → bit a ≡ bit b → a ≡ b
 bit-injective a b e = sym (eqb-bit a) ∙ ap (λ (x : ℕ). eqb x 1) e ∙ eqb-bit b
 
+-- The signals that have as many letters as a set has bits.
+abbrev pub setSignals : ℕ
+setSignals = 6
+
 -- What the code's `1 << k` is.
-pub one-shifted : (k : ℕ) → k < 64 → (1 * 2 ^ k) % 2 ^ 64 ≡ 2 ^ k
-one-shifted k h = shl-exact 1 k 64 (lit< tt) (omega arith) ∙ one-mul (2 ^ k)
+pub one-shifted : (k : ℕ) → k < setBits → (1 * 2 ^ k) % 2 ^ setBits ≡ 2 ^ k
+one-shifted k h = shl-exact 1 k setBits (lit< tt) (omega arith) ∙ one-mul (2 ^ k)
 
 -- A number with no bit is 0, and one with no bit from n on is below 2^n.
 bits-none : (n x : ℕ) → x ≤ n → ((k : ℕ) → bitAt x k ≡ false) → x ≡ 0

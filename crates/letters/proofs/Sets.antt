@@ -10,7 +10,7 @@ use mathlib.Core.Path.{_≡_, refl, sym, ap, _∙_}
 use lib.Dec.{eqb}
 use lib.Pow.{pow-mono, pow-pos}
 use lib.Bits.{bitAnd, bitOr, or-shr, or-mod, and-shr, and-mod, or-lt, and-lt, and-mask, and-le-l}
-use Rattle.letters.specs.Letter.{bitAt, inSet, setOf, bit, without}
+use Rattle.letters.specs.Letter.{bitAt, inSet, setOf, bit, without, setBits}
 use Rattle.letters.proofs.Bits.{bit-zero, bit-suc, bit-place, bit-lt, eqb-bit, bit-eqb}
 
 or-bits : (x y : ℕ) → x < 2 → y < 2 → eqb (bitOr x y) 1 ≡ (eqb x 1 || eqb y 1)
@@ -122,8 +122,8 @@ pub one-more : (l set : ℕ) (p : ℕ → Bool) (b : Bool) → p l ≡ b → set
     → set + bit b * 2 ^ l ≡ setOf (l + 1) p
 one-more l set p b e h = rw (add-one, setOf-snoc, e) (omega arith)
 
-pub room : (l : ℕ) → l < 64 → 2 ^ l + 2 ^ l ≤ 2 ^ 64
-room l h = rw two-pow-succ at (pow-mono {i = suc l} {j = 64} h)
+pub room : (l : ℕ) → l < setBits → 2 ^ l + 2 ^ l ≤ 2 ^ setBits
+room l h = rw two-pow-succ at (pow-mono {i = suc l} {j = setBits} h)
 
 module _ (n : ℕ) (p q : ℕ → Bool) where
   pub setOf-or : bitOr (setOf n p) (setOf n q) ≡ setOf n (λ l. p l || q l)
@@ -192,18 +192,20 @@ setOf-others n p =
 
 -- A set without the letters of another.
 module _ (set off : ℕ) where
-  pub without-in : (l : ℕ) → l < 64 → inSet (without set off) l ≡ (inSet set l && not (inSet off l))
-  without-in l h = in-setOf 64 l (λ i. inSet set i && not (inSet off i)) h
+  pub without-in : (l : ℕ) → l < setBits
+      → inSet (without set off) l ≡ (inSet set l && not (inSet off l))
+  without-in l h = in-setOf setBits l (λ i. inSet set i && not (inSet off i)) h
 
-  module _ (low : set < 2 ^ 64) where
-    without-and : bitAnd set (setOf 64 (λ i. not (inSet off i))) ≡ without set off
+  module _ (low : set < 2 ^ setBits) where
+    without-and : bitAnd set (setOf setBits (λ i. not (inSet off i))) ≡ without set off
     without-and =
-        ap (λ (x : ℕ). bitAnd x (setOf 64 (λ i. not (inSet off i)))) (sym (set-eta 64 set low))
-        ∙ setOf-and 64 (inSet set) (λ i. not (inSet off i))
+        ap (λ (x : ℕ). bitAnd x (setOf setBits (λ i. not (inSet off i))))
+        (sym (set-eta setBits set low))
+        ∙ setOf-and setBits (inSet set) (λ i. not (inSet off i))
 
     -- what the code's `set & !off` is
-    pub without-is : off < 2 ^ 64 → bitAnd set (2 ^ 64 - 1 - off) ≡ without set off
-    without-is small = rw (others-is 64 off small) without-and
+    pub without-is : off < 2 ^ setBits → bitAnd set (2 ^ setBits - 1 - off) ≡ without set off
+    without-is small = rw (others-is setBits off small) without-and
 
     -- It is a smaller number where a letter is in both.
     pub without-less : (l : ℕ) → inSet set l ≡ true → inSet off l ≡ true → without set off < set
@@ -212,7 +214,7 @@ module _ (set off : ℕ) where
         go : Dec (without set off < set) → without set off < set
         go (yes h) = h
         go (no h) =
-            let least = rw without-and at (and-le-l set (setOf 64 (λ i. not (inSet off i)))) in
+            let least = rw without-and at (and-le-l set (setOf setBits (λ i. not (inSet off i)))) in
             let same : without set off ≡ set = omega arith in
             absurd (true≢false (sym is ∙ ap (λ (x : ℕ). inSet x l) (sym same)
-            ∙ rw (without-in l (bit-place set 64 l low is), is, gone)))
+            ∙ rw (without-in l (bit-place set setBits l low is), is, gone)))

@@ -28,9 +28,13 @@ inSet set letter = bitAt set letter
 abbrev pub setFits : ℕ → ℕ → Bool
 setFits s set = ltb set (2 ^ letters s)
 
--- How many letters a set of 64 bits can hold: with up to six signals all of them.
+-- A set is kept as a number of so many bits.
+abbrev pub setBits : ℕ
+setBits = 64
+
+-- How many letters it can hold: with up to six signals all of them.
 abbrev pub width : ℕ → ℕ
-width s = min 64 (letters s)
+width s = min setBits (letters s)
 
 -- The set of the letters below n at which a test holds.
 abbrev pub bit : Bool → ℕ
@@ -41,15 +45,15 @@ unfoldable pub setOf : ℕ → (ℕ → Bool) → ℕ
 setOf zero test = 0
 setOf (suc n) test = bit (test 0) + 2 * setOf n (λ l. test (suc l))
 
--- The letters of a set of 64 bits that are not in another.
+-- The letters of a set that are not in another.
 abbrev pub without : ℕ → ℕ → ℕ
-without set off = setOf 64 (λ letter. inSet set letter && not (inSet off letter))
+without set off = setOf setBits (λ letter. inSet set letter && not (inSet off letter))
 
--- The first of n letters from l on that is in the set; the letter behind them if none is.
+-- The first of n letters from l on that is in the set; the letter after them if none is.
 unfoldable pub leastFrom : ℕ → ℕ → ℕ → ℕ
 leastFrom set zero l = l
 leastFrom set (suc n) l = cond (inSet set l) l (leastFrom set n (suc l))
 
--- The least letter of a set of 64 bits; 64 if it has none.
+-- The least letter of a set; `setBits` if it has none.
 unfoldable pub leastIn : ℕ → ℕ
-leastIn set = leastFrom set 64 0
+leastIn set = leastFrom set setBits 0

@@ -7,6 +7,17 @@ ghost use Rattle.letters.specs.Lists.{within};
 ghost use Rattle.letters.specs.Letter.{signalOn, inSet, letterFits, setFits, width, setOf};
 ghost use Rattle.letters.specs.Letter.{leastIn, without};
 
+// The bits of a set, as specs/Letter.antt has them, and the signals that have so many letters.
+pub const SET_BITS: u8 = 64;
+
+const SET_SIGNALS: u8 = 6;
+
+// The set that has every letter which a set can hold.
+pub const FULL_SET: u64 = 18446744073709551615;
+
+// The bits of a letter.
+const LETTER_BITS: u8 = 8;
+
 // Whether a number is from `least` to `most`.
 pub fn within(least: usize, most: usize, n: usize) -> bool
     ensures { λ r. ⌜ r ≡ within least most n ⌝ }
@@ -14,11 +25,11 @@ pub fn within(least: usize, most: usize, n: usize) -> bool
     (least <= n) & (n <= most)
 }
 
-// Whether a letter is in a set. No letter from 64 on is in one.
+// Whether a letter is in a set. No letter from `SET_BITS` on is in one.
 pub fn contains(set: u64, letter: u8) -> bool
     ensures { λ r. ⌜ r ≡ inSet set letter ⌝ }
 {
-    if letter < 64 {
+    if letter < SET_BITS {
         (set >> letter) % 2 == 1
     } else {
         false
@@ -29,7 +40,7 @@ pub fn contains(set: u64, letter: u8) -> bool
 pub fn letter_fits(signals: u8, letter: u8) -> bool
     ensures { λ r. ⌜ r ≡ letterFits signals letter ⌝ }
 {
-    if signals < 8 {
+    if signals < LETTER_BITS {
         (letter as u64) < 1u64 << signals
     } else {
         true
@@ -40,7 +51,7 @@ pub fn letter_fits(signals: u8, letter: u8) -> bool
 pub fn set_fits(signals: u8, set: u64) -> bool
     ensures { λ r. ⌜ r ≡ setFits signals set ⌝ }
 {
-    if signals < 6 {
+    if signals < SET_SIGNALS {
         set < 1u64 << (1u64 << signals)
     } else {
         true
@@ -51,7 +62,11 @@ pub fn set_fits(signals: u8, set: u64) -> bool
 pub fn width_of(signals: u8) -> u8
     ensures { λ r. ⌜ r ≡ width signals ⌝ }
 {
-    if signals < 6 { 1u8 << signals } else { 64 }
+    if signals < SET_SIGNALS {
+        1u8 << signals
+    } else {
+        SET_BITS
+    }
 }
 
 // The set of all letters that so many signals have.
@@ -59,10 +74,10 @@ pub fn all(signals: u8) -> u64
     ensures { λ r. ⌜ r ≡ setOf (width signals) (λ _. true) ⌝ }
 {
     let n = width_of(signals);
-    if n < 64 {
+    if n < SET_BITS {
         (1u64 << n) - 1
     } else {
-        18446744073709551615
+        FULL_SET
     }
 }
 
@@ -97,7 +112,7 @@ pub fn without(set: u64, off: u64) -> u64
     set & !off
 }
 
-// The least letter of a set; 64 if it has none.
+// The least letter of a set; `SET_BITS` if it has none.
 pub fn least(set: u64) -> u8
     ensures { λ r. ⌜ r ≡ leastIn set ⌝ }
 {

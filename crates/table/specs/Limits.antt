@@ -12,3 +12,11 @@ mostRows = 8
 
 abbrev pub mostTicks : ℕ
 mostTicks = 60
+
+-- "A name has 1 to 8 letters a-z".
+abbrev pub nameLength : ℕ
+nameLength = 8
+
+-- "A row's six conditions".
+abbrev pub conditions : ℕ
+conditions = 6

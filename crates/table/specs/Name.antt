@@ -17,7 +17,7 @@ unfoldable pub letterRun : List ℕ → ℕ
 letterRun [] = 0
 letterRun (b ∷ bs) = cond (isLetter b) (suc (letterRun bs)) 0
 
--- "A name has 1 to 8 letters a-z"; unused name letters are 0. There are eight places.
+-- "A name has 1 to 8 letters a-z"; unused name letters are 0. There are `nameLength` places.
 unfoldable pub nameFits : Name → Bool
 nameFits name =
     leb 1 (letterRun (name .letters))

@@ -35,7 +35,7 @@ use Rattle.watcher.proofs.Records.{watch-phases, phases-watch}
 
 pub rows-length : (table : Table) → length (table .rows) ≡ mostRows → tableFits table ≡ true
     → length (rowsOf table) ≡ table .count
-rows-length table eight fits = length-take-le (table .count) (table .rows)
+rows-length table all fits = length-take-le (table .count) (table .rows)
     (omega (arith, tableFits-count table fits))
 
 -- What a pass over the rows of a table value gives.

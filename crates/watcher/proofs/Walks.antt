@@ -45,10 +45,10 @@ use Rattle.watcher.proofs.Watch as T
 use Rattle.table.specs.Limits.{mostRows}
 use Rattle.watcher.proofs.Watch.Laws as T′
 
--- A record that has a machine value has eight slots.
-pub slots-eight : (watch : Watch) (vs : List Val) → Is (T.the-row) watch vs
+-- A record that has a machine value has a slot for each row.
+pub slots-all : (watch : Watch) (vs : List Val) → Is (T.the-row) watch vs
     → length (watch .slots) ≡ mostRows
-slots-eight watch vs is =
+slots-all watch vs is =
     sym (length-map (watch .slots) _) ∙ LL.owed T.the-type T′.the-laws watch vs is .0 .1 .0 .1
 
 -- A function of no lifetime.

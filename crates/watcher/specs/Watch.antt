@@ -1,4 +1,4 @@
--- "The watcher's state on the machine is one small record": the phases of eight rows.
+-- "The watcher's state on the machine is one small record": the phases of `mostRows` rows.
 use mathlib.Core.List.{List, map}
 use lib.ListN.{replicate}
 use Rattle.table.specs.Limits.{mostRows}

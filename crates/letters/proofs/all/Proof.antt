@@ -3,6 +3,7 @@ use borrow.Author.Needs.{needs}
 use native.Mathlib.Omega.{arith}
 use mathlib.Core.Path.{_≡_, sym}
 use lib.Pow.{pow-pos}
+use Rattle.letters.specs.Letter.{setBits}
 use Rattle.letters.proofs.Bits.{one-shifted}
 use Rattle.letters.proofs.Sets.{setOf-true}
 use Rattle.letters.proofs.all.Statement.{statement}
@@ -20,8 +21,9 @@ returns c =
 
 returns-2 : tie.Need-returns-2
 returns-2 c =
-    let wide : c .before .width-of .result ≡ 64 = omega (arith, c .before .width-of .ensures) in
-    rw (← c .before .width-of .ensures, wide) (sym (setOf-true 64))
+    let wide : c .before .width-of .result ≡ setBits =
+    omega (arith, c .before .width-of .ensures) in
+    rw (← c .before .width-of .ensures, wide) (sym (setOf-true setBits))
 
 pub all-spec : {M : Type 1} → statement M
 all-spec =

@@ -2,6 +2,7 @@
 -- letter says. Assumes nothing.
 use native.Mathlib.Omega.{arith}
 use lib.Count.{trailing-le}
+use Rattle.letters.specs.Letter.{setBits}
 use Rattle.letters.proofs.Lowest.{zeros-least}
 use Rattle.letters.proofs.least.Statement.{statement}
 use Rattle.letters.proofs.least.Tie as tie
@@ -10,4 +11,4 @@ returns : tie.Need-returns
 returns c = zeros-least (c .args .set)
 
 pub least-spec : {M : Type 1} → statement M
-least-spec = tie.close (tie.spec (λ c. omega (arith, trailing-le 64 (c .args .set))) returns)
+least-spec = tie.close (tie.spec (λ c. omega (arith, trailing-le setBits (c .args .set))) returns)

@@ -7,7 +7,8 @@ use native.Mathlib.Nat.{lt-of-lt-of-le}
 use native.Mathlib.Omega.{arith}
 use lib.Pow.{pow-mono}
 use mathlib.Core.Path.{sym}
-use Rattle.letters.proofs.Bits.{one-shifted}
+use Rattle.letters.specs.Letter.{setBits}
+use Rattle.letters.proofs.Bits.{setSignals, one-shifted}
 use Rattle.letters.proofs.set_fits.Statement.{statement}
 use Rattle.letters.proofs.set_fits.Tie as tie
 
@@ -26,7 +27,7 @@ returns c =
 returns-2 : tie.Need-returns-2
 returns-2 c =
     sym (lt-ltb _ _ (lt-of-lt-of-le (c .before .fits .set .fits)
-    (pow-mono {i = 64} (pow-mono {i = 6} (c .if1 .left)))))
+    (pow-mono {i = setBits} (pow-mono {i = setSignals} (c .if1 .left)))))
 
 pub set-fits-spec : {M : Type 1} → statement M
 set-fits-spec = tie.close (tie.spec (λ c. search needs) shl-result-2 returns returns-2)

@@ -6,7 +6,7 @@ use native.Mathlib.Omega.{arith}
 use mathlib.Core.Logic.{⊎-elim}
 use mathlib.Core.Bool.{true, false}
 use mathlib.Core.Path.{_≡_, refl, sym, _∙_}
-use Rattle.letters.specs.Letter.{signalOn, setOf, width}
+use Rattle.letters.specs.Letter.{signalOn, setOf, width, setBits}
 use Rattle.letters.proofs.Bits.{one-shifted}
 use Rattle.letters.proofs.Sets.{setOf-lt, one-more, room}
 use Rattle.letters.proofs.signal_set.Statement.{statement}
@@ -28,7 +28,7 @@ shl-set c = let q = c .before .before .before in omega (arith, q .before .width-
 add-set : tie.Need-add-set Inv-loop μ-loop
 add-set c =
     let q = c .before .before .before in
-    let low : q .loop .l < 64 = omega (arith, q .before .width-of .ensures) in
+    let low : q .loop .l < setBits = omega (arith, q .before .width-of .ensures) in
     let k = q .before .before .args .k in
     rw (one-shifted (q .loop .l) low)
     (omega (arith, setOf-lt (q .loop .l) (λ i. signalOn i k), room (q .loop .l) low))
@@ -39,7 +39,7 @@ add-l c = let q = c .before .before .before in omega (arith, q .before .width-of
 loop-again : tie.Need-loop-again Inv-loop μ-loop
 loop-again c =
     let q = c .before .before .before in
-    let low : q .loop .l < 64 = omega (arith, q .before .width-of .ensures) in
+    let low : q .loop .l < setBits = omega (arith, q .before .width-of .ensures) in
     let told = c .before .contains .ensures in
     let more = one-more (q .loop .l) (q .loop .set) (λ i. signalOn i (q .before .before .args .k))
     in

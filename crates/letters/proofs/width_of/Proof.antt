@@ -6,6 +6,8 @@ use native.Mathlib.Omega.{arith}
 use lib.Dec.{lit<}
 use lib.Pow.{pow-mono, shl-exact}
 use native.Mathlib.Nat.{one-mul}
+use Rattle.letters.specs.Letter.{setBits}
+use Rattle.letters.proofs.Bits.{setSignals}
 use Rattle.letters.proofs.width_of.Statement.{statement}
 use Rattle.letters.proofs.width_of.Tie as tie
 
@@ -18,7 +20,7 @@ returns c =
 returns-2 : tie.Need-returns-2
 returns-2 c =
     let s = c .before .args .signals in
-    let many : 64 ≤ 2 ^ s = pow-mono {i = 6} {j = s} (c .if1 .left) in
+    let many : setBits ≤ 2 ^ s = pow-mono {i = setSignals} {j = s} (c .if1 .left) in
     omega arith
 
 pub width-of-spec : {M : Type 1} → statement M

@@ -1,5 +1,5 @@
 -- `table::valid` meets its contract: the code's tests, in another order, are those of number 17,
--- since a table value has eight places for rows. Assumes nothing.
+-- since a table value has `mostRows` places for rows. Assumes nothing.
 use Prim.Native.Nat.{_≤_}
 use borrow.Author.Needs.{needs}
 use native.Mathlib.Omega.{arith}
@@ -25,16 +25,16 @@ tests-order true false l nf nd nr rf ru h = refl
 tests-order false true l nf nd nr rf ru h = refl
 tests-order false false l nf nd nr rf ru h = refl
 
--- eight places hold as many used rows as the row count says
+-- so many places hold as many used rows as the row count says
 count-used : (t : Table) → length (t .rows) ≡ mostRows → within 1 mostRows (t .count) ≡ true
     → within 1 mostRows (length (rowsOf t)) ≡ true
 count-used t e h =
     let fits : t .count ≤ length (t .rows) = omega (arith, within-high 1 mostRows (t .count) h) in
     rw length-take-le h
 
--- a table value has eight places for rows: it is so of its fourth field
-eight : (c : tie.Start) → length (c .args .table .rows) ≡ mostRows
-eight c = rw length-map at (c .good .0 .1 .1 .1 .1 .1 .0 .1 .0 .1)
+-- a table value has its places for rows: it is so of its fourth field
+places : (c : tie.Start) → length (c .args .table .rows) ≡ mostRows
+places c = rw length-map at (c .good .0 .1 .1 .1 .1 .1 .0 .1 .0 .1)
 
 returns : tie.Need-returns
 unfolding tableFits rulesFit namesFit
@@ -47,7 +47,7 @@ returns c =
     (within 1 mostRows (length (rowsOf t)))
     (every nameFits (take s (t .names))) (allDistinct (take s (t .names)))
     (every nameUnused (drop s (t .names))) (every (rowFits s) (rowsOf t))
-    (every rowUnused (drop (t .count) (t .rows))) (count-used t (eight start)) in
+    (every rowUnused (drop (t .count) (t .rows))) (count-used t (places start)) in
     cc
 
 pub valid-spec : {M : Type 1} → statement M

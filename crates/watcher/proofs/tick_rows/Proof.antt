@@ -49,7 +49,7 @@ use Rattle.watcher.specs.inner.Pass.{begun, passOver, finished}
 use Rattle.watcher.proofs.Passes.{pass-end, pass-answer}
 use Rattle.watcher.proofs.Lent.{Lent, lentOf, Typed, count, signalsVal, letterVal, token}
 use Rattle.watcher.proofs.Lent.{rowsVal, stateVal, answer, rowsArgs, rowsVals}
-use Rattle.watcher.proofs.Walks.{slots-eight, Meant, fits, made, made-uint, holds, spot}
+use Rattle.watcher.proofs.Walks.{slots-all, Meant, fits, made, made-uint, holds, spot}
 use Rattle.watcher.proofs.Walks.{copied, part-copied, calls-plain, allots, frees-all, has}
 use Rattle.watcher.proofs.Walks.{falling, paired, shown}
 use Rattle.watcher.proofs.Watch as T
@@ -157,7 +157,7 @@ module _ {M : Type 1} (𝓤 : URA M) (H : Heap 𝓤) (A : Atoms 𝓤) (W : Given
             ap (λ (p : Pass). finished p (x .watch))
             (sym (pass-end (x .rows) (t .at) (t .pass) big) ∙ t .left)
             ∙ pass-answer (x .signals) (x .rows) (x .watch) (x .letter)
-            (slots-eight (x .watch) (stateVal (x .watch) ∷ []) isw)
+            (slots-all (x .watch) (stateVal (x .watch) ∷ []) isw)
 
     -- Every turn, and the loop.
     turns : (t : Turn x) → ent 𝓤 (⋆ 𝓤 H A (At 𝓤 H x a t)) (Goal t (Next t))

@@ -9,11 +9,11 @@ use Rattle.watcher.proofs.tick_table.Statement.{statement}
 use Rattle.table.specs.Limits.{mostRows}
 use Rattle.watcher.proofs.tick_table.Tie as tie
 
-rows-eight : (c : tie.Start) → length (c .args .table .rows) ≡ mostRows
-rows-eight c = rw length-map at (c .good .0 .1 .1 .1 .1 .1 .0 .1 .0 .1)
+rows-all : (c : tie.Start) → length (c .args .table .rows) ≡ mostRows
+rows-all c = rw length-map at (c .good .0 .1 .1 .1 .1 .1 .0 .1 .0 .1)
 
-slots-eight : (c : tie.Start) → length (c .args .watch .slots) ≡ mostRows
-slots-eight c = rw length-map at (c .good .1 .0 .1 .1 .0 .1 .0 .1)
+slots-all : (c : tie.Start) → length (c .args .watch .slots) ≡ mostRows
+slots-all c = rw length-map at (c .good .1 .0 .1 .1 .0 .1 .0 .1)
 
 returns : tie.Need-returns
 returns c = c .refused .ensures ∙ table-refused _ _ _
@@ -23,7 +23,7 @@ returns-2 : tie.Need-returns-2
 returns-2 c =
     let start = c .before .before .before .before .before .before .before in
     c .finish .ensures ∙ rw (c .before .over .ensures, c .before .before .begin .ensures)
-    (table-answer _ _ _ (rows-eight start) (slots-eight start)
+    (table-answer _ _ _ (rows-all start) (slots-all start)
     (sym (c .before .before .before .before .before .before .valid .ensures)
     ∙ not-false _ (c .before .before .before .before .before .if1 .left)))
 

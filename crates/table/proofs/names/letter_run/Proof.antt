@@ -6,6 +6,7 @@ use borrow.Author.Tests.{not-true, not-false}
 use native.Mathlib.Omega.{arith}
 use mathlib.Core.Path.{_≡_, sym, _∙_}
 use lib.ListN.{drop}
+use Rattle.table.specs.Limits.{nameLength}
 use Rattle.table.specs.Name.{letterRun}
 use Rattle.table.proofs.Laws.{letterRun-next, letterRun-stop, letterRun-end}
 use Rattle.table.proofs.names.letter_run.Statement.{statement}
@@ -15,7 +16,7 @@ abbrev Inv-loop : tie.InvT-loop
 Inv-loop letters i₀ i = letterRun letters ≡ i + letterRun (drop i letters)
 
 abbrev μ-loop : tie.MeasureT-loop
-μ-loop letters i₀ i = 8 - i
+μ-loop letters i₀ i = nameLength - i
 
 returns : tie.Need-returns Inv-loop μ-loop
 returns c =

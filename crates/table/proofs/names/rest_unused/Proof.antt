@@ -5,6 +5,7 @@ use borrow.Author.Needs.{needs}
 use borrow.Author.Tests.{not-true, not-false}
 use mathlib.Core.Path.{_≡_, sym, _∙_}
 use lib.ListN.{drop}
+use Rattle.table.specs.Limits.{mostSignals}
 use Rattle.letters.specs.Lists.{every}
 use Rattle.letters.proofs.Lists.{every-next, every-stop, every-end}
 use Rattle.table.specs.Name.{nameUnused}
@@ -15,7 +16,7 @@ abbrev Inv-loop : tie.InvT-loop
 Inv-loop n names i₀ i = every nameUnused (drop n names) ≡ every nameUnused (drop i names)
 
 abbrev μ-loop : tie.MeasureT-loop
-μ-loop n names i₀ i = 6 - i
+μ-loop n names i₀ i = mostSignals - i
 
 returns : tie.Need-returns Inv-loop μ-loop
 returns c =

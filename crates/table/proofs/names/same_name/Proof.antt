@@ -5,6 +5,7 @@ use borrow.Author.Needs.{needs}
 use native.Mathlib.Omega.{arith}
 use mathlib.Core.Path.{_≡_, sym, _∙_}
 use lib.ListN.{length, drop}
+use Rattle.table.specs.Limits.{nameLength}
 use Rattle.table.specs.Name.{sameName}
 use Rattle.letters.specs.Lists.{sameBytes}
 use Rattle.letters.proofs.Lists.{sameBytes-next, sameBytes-stop, sameBytes-end}
@@ -15,7 +16,7 @@ abbrev Inv-loop : tie.InvT-loop
 Inv-loop a b i₀ i = sameName a b ≡ sameBytes (drop i (a .letters)) (drop i (b .letters))
 
 abbrev μ-loop : tie.MeasureT-loop
-μ-loop a b i₀ i = 8 - i
+μ-loop a b i₀ i = nameLength - i
 
 returns : tie.Need-returns Inv-loop μ-loop
 returns c =
@@ -30,8 +31,8 @@ loop-again c =
 returns-2 : tie.Need-returns-2 Inv-loop μ-loop
 returns-2 c =
     let loop = c .before .loop in
-    let a : length (c .before .before .args .t1 .letters) ≡ 8 = search needs in
-    let b : length (c .before .before .args .t2 .letters) ≡ 8 = search needs in
+    let a : length (c .before .before .args .t1 .letters) ≡ nameLength = search needs in
+    let b : length (c .before .before .args .t2 .letters) ≡ nameLength = search needs in
     sym (loop .inv ∙ sameBytes-end _ _ (loop .i) (omega arith) (omega arith))
 
 pub same-name-spec : {M : Type 1} → statement M

@@ -6,6 +6,7 @@ use borrow.Author.Tests.{not-true, not-false}
 use native.Mathlib.Omega.{arith}
 use mathlib.Core.Path.{_≡_, sym, _∙_}
 use lib.ListN.{length, take, drop, length-take}
+use Rattle.table.specs.Limits.{mostSignals}
 use Rattle.letters.specs.Lists.{every}
 use Rattle.letters.proofs.Lists.{every-end, every-take-next, every-take-stop}
 use Rattle.table.specs.Name.{nameFits}
@@ -22,7 +23,7 @@ abbrev μ-loop : tie.MeasureT-loop
 returns : tie.Need-returns Inv-loop μ-loop
 returns c =
     let loop = c .before .before .loop in
-    let all : length (c .before .before .before .args .t1) ≡ 6 = search needs in
+    let all : length (c .before .before .before .args .t1) ≡ mostSignals = search needs in
     sym (loop .inv ∙ every-end _ _ (loop .i) (rw length-take (omega arith)))
 
 returns-2 : tie.Need-returns-2 Inv-loop μ-loop

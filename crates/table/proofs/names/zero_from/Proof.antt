@@ -5,6 +5,7 @@ use borrow.Author.Needs.{needs}
 use borrow.Author.Tests.{eq-eqb, ne-eqb}
 use mathlib.Core.Path.{_≡_, sym, _∙_}
 use lib.ListN.{drop}
+use Rattle.table.specs.Limits.{nameLength}
 use Rattle.letters.specs.Lists.{every}
 use Rattle.letters.proofs.Lists.{every-next, every-stop, every-end}
 use Rattle.table.specs.Row.{isZero}
@@ -15,7 +16,7 @@ abbrev Inv-loop : tie.InvT-loop
 Inv-loop n letters i₀ i = every isZero (drop n letters) ≡ every isZero (drop i letters)
 
 abbrev μ-loop : tie.MeasureT-loop
-μ-loop n letters i₀ i = 8 - i
+μ-loop n letters i₀ i = nameLength - i
 
 returns : tie.Need-returns Inv-loop μ-loop
 returns c =

@@ -5,6 +5,7 @@ use borrow.Author.Needs.{needs}
 use borrow.Author.Tests.{not-true, not-false}
 use mathlib.Core.Path.{_≡_, sym, _∙_}
 use lib.ListN.{drop}
+use Rattle.table.specs.Limits.{conditions}
 use Rattle.letters.specs.Lists.{every}
 use Rattle.letters.specs.Letter.{setFits}
 use Rattle.letters.proofs.Lists.{every-next, every-stop, every-end}
@@ -15,7 +16,7 @@ abbrev Inv-loop : tie.InvT-loop
 Inv-loop signals sets i₀ i = every (setFits signals) sets ≡ every (setFits signals) (drop i sets)
 
 abbrev μ-loop : tie.MeasureT-loop
-μ-loop signals sets i₀ i = 6 - i
+μ-loop signals sets i₀ i = conditions - i
 
 returns : tie.Need-returns Inv-loop μ-loop
 returns c =

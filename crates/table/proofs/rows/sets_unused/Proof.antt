@@ -5,6 +5,7 @@ use borrow.Author.Needs.{needs}
 use borrow.Author.Tests.{eq-eqb, ne-eqb}
 use mathlib.Core.Path.{_≡_, sym, _∙_}
 use lib.ListN.{drop}
+use Rattle.table.specs.Limits.{conditions}
 use Rattle.letters.specs.Lists.{every}
 use Rattle.letters.proofs.Lists.{every-next, every-stop, every-end}
 use Rattle.table.specs.Row.{isZero}
@@ -15,7 +16,7 @@ abbrev Inv-loop : tie.InvT-loop
 Inv-loop sets i₀ i = every isZero sets ≡ every isZero (drop i sets)
 
 abbrev μ-loop : tie.MeasureT-loop
-μ-loop sets i₀ i = 6 - i
+μ-loop sets i₀ i = conditions - i
 
 returns : tie.Need-returns Inv-loop μ-loop
 returns c =

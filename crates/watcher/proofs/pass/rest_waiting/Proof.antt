@@ -23,8 +23,8 @@ Inv-loop n watch i₀ i =
 abbrev μ-loop : tie.MeasureT-loop
 μ-loop n watch i₀ i = mostRows - i
 
-eight : (c : tie.Start Inv-loop μ-loop) → length (phasesOf (c .args .t1)) ≡ mostRows
-eight c = phases-length (c .args .t1) ∙ (rw length-map at (c .good .0 .1 .1 .0 .1 .0 .1))
+phases-all : (c : tie.Start Inv-loop μ-loop) → length (phasesOf (c .args .t1)) ≡ mostRows
+phases-all c = phases-length (c .args .t1) ∙ (rw length-map at (c .good .0 .1 .1 .0 .1 .0 .1))
 
 -- what the call in a turn says of row i
 waits : (c : tie.After-is-waiting Inv-loop μ-loop) → let q = c .before .before .before in
@@ -36,19 +36,20 @@ returns : tie.Need-returns Inv-loop μ-loop
 returns c =
     let q = c .before .before .before .before in
     sym (q .loop .inv ∙ every-stop isWaiting _ (q .loop .i) Waiting
-    (omega (arith, eight (q .before)))
+    (omega (arith, phases-all (q .before)))
     (waits (c .before) ∙ not-true _ (c .if1 .taken)))
 
 loop-again : tie.Need-loop-again Inv-loop μ-loop
 loop-again c =
     let q = c .before .before .before .before in
-    q .loop .inv ∙ every-next isWaiting _ (q .loop .i) Waiting (omega (arith, eight (q .before)))
+    q .loop .inv ∙ every-next isWaiting _ (q .loop .i) Waiting
+    (omega (arith, phases-all (q .before)))
     (waits (c .before) ∙ not-false _ (c .if1 .left))
 
 returns-2 : tie.Need-returns-2 Inv-loop μ-loop
 returns-2 c =
     let q = c .before in
-    sym (q .loop .inv ∙ every-end isWaiting _ (q .loop .i) (omega (arith, eight (q .before))))
+    sym (q .loop .inv ∙ every-end isWaiting _ (q .loop .i) (omega (arith, phases-all (q .before))))
 
 pub rest-waiting-spec : {M : Type 1} → statement M
 rest-waiting-spec =
