@@ -16,7 +16,7 @@ use Rattle.traces.specs.inner.Answer.{Answer}
 use Rattle.traces.specs.inner.Answer.Answer.{tooMany, sound, trapped}
 use Rattle.traces.proofs.Answer.{Within, answer-within}
 use Rattle.reader.specs.inner.File.{readAnswer}
-use Rattle.reader.proofs.Accepted.{Told, taken, turned, read-told}
+use Rattle.reader.proofs.Accepted.{FileAnswer, taken, turned, file-answer}
 use Rattle.reader.proofs.Fits.{file-fits}
 use Rattle.scratch.specs.Room.{mostRoom}
 use Rattle.scratch.specs.inner.Same.{samePhases}
@@ -92,9 +92,9 @@ module _ (table : Table) (lent : Lent) (short : length (lent .trace) ≤ mostRoo
 checked-short : (bytes : List ℕ) (lent : Lent) → length (lent .trace) ≤ mostRoom
     → length (checkAnswer bytes lent .report) ≤ mostReport
 unfolding checkAnswer
-checked-short bytes lent short = go (read-told bytes)
+checked-short bytes lent short = go (file-answer bytes)
   where
-    go : Told bytes (readAnswer bytes) → length (checkAnswer bytes lent .report) ≤ mostReport
+    go : FileAnswer bytes (readAnswer bytes) → length (checkAnswer bytes lent .report) ≤ mostReport
     go (taken table file e) = rw e (accepted-short table lent short (file-fits bytes table file))
     go (turned number line one small low e) =
         let found = FoundRefused (record { number = number; line = line }) in

@@ -85,9 +85,9 @@ module _ (names : List Name) (n : ℕ) (s : List ℕ) where
 
   -- The code gives letters exactly where the bytes are a condition over known names, and at most 8
   -- parentheses are open.
-  judge-good : (v : ℕ) → judge names n s ≡ Letters v → Shallow s × ConditionMeans names n s v false
+  judge-accepted : (v : ℕ) → judge names n s ≡ Letters v → Shallow s × ConditionMeans names n s v false
   unfolding judge
-  judge-good v e = go (deep 0 0 s) (conditionOf names n s) refl refl e
+  judge-accepted v e = go (deep 0 0 s) (conditionOf names n s) refl refl e
     where
       flagged : (w : ℕ) (u : Bool) → cond u (Refused 13) (Letters w) ≡ Letters v
           → ConditionMeans names n s w u → ConditionMeans names n s v false
@@ -102,10 +102,10 @@ module _ (names : List Name) (n : ℕ) (s : List ℕ) where
       go false (Set w u next) d p q = (deep-false s d, flagged w u q (read-means w u next p))
 
   pub judge-shallow : (v : ℕ) → judge names n s ≡ Letters v → Shallow s
-  judge-shallow v e = judge-good v e .0
+  judge-shallow v e = judge-accepted v e .0
 
   pub judge-letters : (v : ℕ) → judge names n s ≡ Letters v → ConditionMeans names n s v false
-  judge-letters v e = judge-good v e .1
+  judge-letters v e = judge-accepted v e .1
 
   pub judge-means : (v : ℕ) → Shallow s → ConditionMeans names n s v false → judge names n s ≡ Letters v
   unfolding judge

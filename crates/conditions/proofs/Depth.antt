@@ -13,10 +13,10 @@ use lib.Dec.{eqb, ltb}
 use lib.ListN.{length, getD, take, drop, drop-of-length-le}
 use lib.Seq.{drop-cons}
 use Rattle.text.specs.Lines.{count}
-use Rattle.conditions.specs.inner.Judge.{one, deep}
+use Rattle.conditions.specs.inner.Judge.{isByte, deep}
 use Rattle.conditions.specs.Depth.{Shallow, TooDeep}
 
-count-cons : (b x : ℕ) (xs : List ℕ) → count b (x ∷ xs) ≡ one x b + count b xs
+count-cons : (b x : ℕ) (xs : List ℕ) → count b (x ∷ xs) ≡ isByte x b + count b xs
 unfolding count
 count-cons b x xs = go (eqb x b)
   where
@@ -38,10 +38,10 @@ deep-over [] o c e = absurd (true≢false (sym e))
 deep-over (x ∷ xs) o c e = go (ltb (c' + 8) o') refl e (deep-over xs o' c')
   where
     o' : ℕ
-    o' = o + one x (code "(")
+    o' = o + isByte x (code "(")
 
     c' : ℕ
-    c' = c + one x (code ")")
+    c' = c + isByte x (code ")")
 
     go : (t : Bool) → ltb (c' + 8) o' ≡ t → (t || deep o' c' xs) ≡ true
         → (deep o' c' xs ≡ true → (i : ℕ) × Over o' c' xs i) → (i : ℕ) × Over o c (x ∷ xs) i
@@ -62,10 +62,10 @@ deep-within (x ∷ xs) o c e h zero = omega arith
 deep-within (x ∷ xs) o c e h (suc i) = go (ltb (c' + 8) o') refl e (deep-within xs o' c')
   where
     o' : ℕ
-    o' = o + one x (code "(")
+    o' = o + isByte x (code "(")
 
     c' : ℕ
-    c' = c + one x (code ")")
+    c' = c + isByte x (code ")")
 
     go : (t : Bool) → ltb (c' + 8) o' ≡ t → (t || deep o' c' xs) ≡ false
         → (deep o' c' xs ≡ false → o' ≤ c' + 8 → (i : ℕ) → Within o' c' xs i)
@@ -101,8 +101,8 @@ module _ (xs : List ℕ) where
       go false e = absurd (not-both h (deep-false e))
 
 -- The loop's turn.
-module _ (s : List ℕ) (o c i : ℕ) {x y : ℕ} (h : i < length s) (p : x ≡ one (getD s i 0) (code "("))
-    (q : y ≡ one (getD s i 0) (code ")")) where
+module _ (s : List ℕ) (o c i : ℕ) {x y : ℕ} (h : i < length s) (p : x ≡ isByte (getD s i 0) (code "("))
+    (q : y ≡ isByte (getD s i 0) (code ")")) where
   pub deep-stop : c + y + 8 < o + x → deep o c (drop i s) ≡ true
   unfolding deep
   deep-stop g = rw (drop-cons s i 0 h, ← p, ← q, lt-ltb (c + y + 8) (o + x) g)
@@ -115,8 +115,8 @@ pub deep-end : (s : List ℕ) (o c i : ℕ) → length s ≤ i → deep o c (dro
 unfolding deep
 deep-end s o c i h = rw (drop-of-length-le s h)
 
-pub one-most : {r : ℕ} (b x : ℕ) → r ≡ one b x → r ≤ 1
-one-most b x e = rw e (go (eqb b x))
+pub isByte-most : {r : ℕ} (b x : ℕ) → r ≡ isByte b x → r ≤ 1
+isByte-most b x e = rw e (go (eqb b x))
   where
     go : (t : Bool) → cond t 1 0 ≤ 1
     go true = omega arith

@@ -5,7 +5,7 @@ use Prim.Native.Nat.{ℕ, zero, suc, _+_, _≤_, _<_}
 use native.Mathlib.Omega.{arith}
 use borrow.Author.Tests.{ltb-false, eqb-false}
 use mathlib.Core.Bool.{Bool, true, false, _||_, cond}
-use mathlib.Core.List.{List, _++_, append-assoc}
+use mathlib.Core.List.{List, _∷_, _++_, append-assoc}
 use mathlib.Core.Path.{_≡_, refl, sym, _∙_}
 use lib.Bits.{bitAnd, bitOr}
 use lib.Dec.{eqb, ltb}
@@ -41,75 +41,76 @@ module _ (names : List Name) (n : ℕ) (s : List ℕ) where
   Sound k at (Set v u next) = Wrote names n s k at v u next
   Sound k at Nothing = Unit {0}
 
-  -- A part, and where the byte b follows it, more of the same kind.
-  followed-sound : {k part : Kind} (b : ℕ) (f : ℕ → ℕ → ℕ) (at : ℕ) (r : Read)
-      (rest : ℕ → Read)
-      → ((v : ℕ) (u : Bool) (next : ℕ) → Wrote names n s part at v u next
-      → Wrote names n s k at v u next)
-      → ((v : ℕ) (u : Bool) (next : ℕ) (q : Read) → isAt s next b ≡ true
-      → Wrote names n s part at v u next → Sound k (next + 1) q → Sound k at (joined f v u q))
-      → Sound part at r → ((m : ℕ) → Sound k m (rest m)) → Sound k at (followed s b rest f r)
-  followed-sound b f at Nothing rest one more h g = tt
-  followed-sound {k} b f at (Set v u next) rest one more h g = go (isAt s next b) refl
-    where
-      go : (x : Bool) → isAt s next b ≡ x
-          → Sound k at (cond x (joined f v u (rest (next + 1))) (Set v u next))
-      go true e = more v u next (rest (next + 1)) e h (g (next + 1))
-      go false e = one v u next h
+  -- One or more parts joined by a byte: terms by `|`, factors by `&`.
+  record Joining (k part : Kind) (b : ℕ) (f : ℕ → ℕ → ℕ) : Type 0 where
+    one : Condition part → Condition k
+    one-text : (t : Condition part) → text (one t) ≡ text t
+    one-letters : (t : Condition part) → setOf n (holdsAt names (one t))
+        ≡ setOf n (holdsAt names t)
+    one-flag : (t : Condition part) → unknown names (one t) ≡ unknown names t
+    more : Condition part → Condition k → Condition k
+    more-text : (t : Condition part) (c : Condition k) → text (more t c) ≡ text t ++ b ∷ text c
+    more-letters : (t : Condition part) (c : Condition k) → setOf n (holdsAt names (more t c))
+        ≡ f (setOf n (holdsAt names t)) (setOf n (holdsAt names c))
+    more-flag : (t : Condition part) (c : Condition k) → unknown names (more t c)
+        ≡ (unknown names t || unknown names c)
 
-  one-term : (at v : ℕ) (u : Bool) (next : ℕ) → Wrote names n s term at v u next
-      → Wrote names n s choice at v u next
+  terms : Joining choice term (code "|") bitOr
   unfolding text holdsAt unknown
-  one-term at v u next h = record {
-    tree = oneTerm (h .tree);
-    starts = h .starts;
-    ends = h .ends;
-    bytes = h .bytes;
-    letters = h .letters;
-    flag = h .flag;
+  terms = record {
+    one = oneTerm;
+    one-text = λ t. refl;
+    one-letters = λ t. refl;
+    one-flag = λ t. refl;
+    more = or;
+    more-text = λ t c. refl;
+    more-letters = λ t c. sym (setOf-or n (holdsAt names t) (holdsAt names c));
+    more-flag = λ t c. refl;
   }
 
-  more-terms : (at v : ℕ) (u : Bool) (next : ℕ) (q : Read) → isAt s next (code "|") ≡ true
-      → Wrote names n s term at v u next → Sound choice (next + 1) q
-      → Sound choice at (joined bitOr v u q)
+  factors : Joining term factor (code "&") bitAnd
   unfolding text holdsAt unknown
-  more-terms at v u next Nothing e h g = tt
-  more-terms at v u next (Set w t last) e h g = record {
-    tree = or (h .tree) (g .tree);
-    starts = omega (arith, h .starts, g .starts);
-    ends = g .ends;
-    bytes = rw append-assoc (h .bytes ∙ rw (isAt-cons s next (code "|") e, g .bytes));
-    letters = sym (setOf-or n (holdsAt names (h .tree)) (holdsAt names (g .tree)))
-        ∙ rw (h .letters, g .letters);
-    flag = rw (h .flag, g .flag);
+  factors = record {
+    one = oneFactor;
+    one-text = λ t. refl;
+    one-letters = λ t. refl;
+    one-flag = λ t. refl;
+    more = and;
+    more-text = λ t c. refl;
+    more-letters = λ t c. sym (setOf-and n (holdsAt names t) (holdsAt names c));
+    more-flag = λ t c. refl;
   }
 
-  one-factor : (at v : ℕ) (u : Bool) (next : ℕ) → Wrote names n s factor at v u next
-      → Wrote names n s term at v u next
-  unfolding text holdsAt unknown
-  one-factor at v u next h = record {
-    tree = oneFactor (h .tree);
-    starts = h .starts;
-    ends = h .ends;
-    bytes = h .bytes;
-    letters = h .letters;
-    flag = h .flag;
-  }
+  module _ {k part : Kind} {b : ℕ} {f : ℕ → ℕ → ℕ} (j : Joining k part b f) (at : ℕ) where
+    joined-sound : (v : ℕ) (u : Bool) (next : ℕ) (q : Read) → isAt s next b ≡ true
+        → Wrote names n s part at v u next → Sound k (next + 1) q → Sound k at (joined f v u q)
+    joined-sound v u next Nothing e h g = tt
+    joined-sound v u next (Set w t last) e h g = record {
+      tree = j .more (h .tree) (g .tree);
+      starts = omega (arith, h .starts, g .starts);
+      ends = g .ends;
+      bytes = rw (j .more-text (h .tree) (g .tree), append-assoc)
+          (h .bytes ∙ rw (isAt-cons s next b e, g .bytes));
+      letters = j .more-letters (h .tree) (g .tree) ∙ rw (h .letters, g .letters);
+      flag = j .more-flag (h .tree) (g .tree) ∙ rw (h .flag, g .flag);
+    }
 
-  more-factors : (at v : ℕ) (u : Bool) (next : ℕ) (q : Read) → isAt s next (code "&") ≡ true
-      → Wrote names n s factor at v u next → Sound term (next + 1) q
-      → Sound term at (joined bitAnd v u q)
-  unfolding text holdsAt unknown
-  more-factors at v u next Nothing e h g = tt
-  more-factors at v u next (Set w t last) e h g = record {
-    tree = and (h .tree) (g .tree);
-    starts = omega (arith, h .starts, g .starts);
-    ends = g .ends;
-    bytes = rw append-assoc (h .bytes ∙ rw (isAt-cons s next (code "&") e, g .bytes));
-    letters = sym (setOf-and n (holdsAt names (h .tree)) (holdsAt names (g .tree)))
-        ∙ rw (h .letters, g .letters);
-    flag = rw (h .flag, g .flag);
-  }
+    followed-sound : (r : Read) (rest : ℕ → Read) → Sound part at r
+        → ((m : ℕ) → Sound k m (rest m)) → Sound k at (followed s b rest f r)
+    followed-sound Nothing rest h g = tt
+    followed-sound (Set v u next) rest h g = go (isAt s next b) refl
+      where
+        go : (x : Bool) → isAt s next b ≡ x
+            → Sound k at (cond x (joined f v u (rest (next + 1))) (Set v u next))
+        go true e = joined-sound v u next (rest (next + 1)) e h (g (next + 1))
+        go false e = record {
+          tree = j .one (h .tree);
+          starts = h .starts;
+          ends = h .ends;
+          bytes = rw (j .one-text (h .tree)) (h .bytes);
+          letters = j .one-letters (h .tree) ∙ h .letters;
+          flag = j .one-flag (h .tree) ∙ h .flag;
+        }
 
   negated-sound : (at : ℕ) (r : Read) → isAt s at (code "!") ≡ true → Sound factor (at + 1) r
       → Sound factor at (others n r)
@@ -215,11 +216,11 @@ module _ (names : List Name) (n : ℕ) (s : List ℕ) where
   unfolding reads
   sound zero at k = tt
   sound (suc f) at choice =
-      followed-sound (code "|") bitOr at (reads names n s f term at) (reads names n s f choice)
-      (one-term at) (more-terms at) (sound f at term) (λ m. sound f m choice)
+      followed-sound terms at (reads names n s f term at) (reads names n s f choice)
+      (sound f at term) (λ m. sound f m choice)
   sound (suc f) at term =
-      followed-sound (code "&") bitAnd at (reads names n s f factor at) (reads names n s f term)
-      (one-factor at) (more-factors at) (sound f at factor) (λ m. sound f m term)
+      followed-sound factors at (reads names n s f factor at) (reads names n s f term)
+      (sound f at factor) (λ m. sound f m term)
   sound (suc f) at factor =
       factor-sound at (reads names n s f factor (at + 1)) (reads names n s f choice (at + 1))
       (sound f (at + 1) factor) (sound f (at + 1) choice)

@@ -6,10 +6,13 @@ use mathlib.Core.List.{List}
 use lib.ListN.{take}
 use Rattle.text.specs.Lines.{count}
 
+abbrev pub mostOpen : ℕ
+mostOpen = 8
+
 -- Opening less closing ones are at most 8 before each place; or over 8 before some place.
 pub record Shallow (xs : List ℕ) : Type 0 where
-  pub upto : (i : ℕ) → count (code "(") (take i xs) ≤ count (code ")") (take i xs) + 8
+  pub upto : (i : ℕ) → count (code "(") (take i xs) ≤ count (code ")") (take i xs) + mostOpen
 
 pub record TooDeep (xs : List ℕ) : Type 0 where
   pub place : ℕ
-  pub over : count (code ")") (take place xs) + 8 < count (code "(") (take place xs)
+  pub over : count (code ")") (take place xs) + mostOpen < count (code "(") (take place xs)

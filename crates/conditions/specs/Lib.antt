@@ -1,5 +1,5 @@
--- Conditions. `Bytes`, `Condition` (the grammar), `Depth`, `Judge`: what is right. That the code's
--- answer is, is promised.
+-- Conditions: `Condition` (the grammar), `Depth`, `Judge` say what is right. That the code's answer is,
+-- is promised.
 pub mod Condition
 pub mod Depth
 pub mod Judge

@@ -9,9 +9,12 @@ ghost use lib.Bits.{bitAnd, bitOr};
 ghost use Rattle.letters.specs.Letter.{width};
 ghost use Rattle.table.specs.Name.{letterRun};
 ghost use Rattle.conditions.specs.Condition.{nameOf, place, Kind};
-ghost use Rattle.conditions.specs.inner.Judge.{one, deep, verdictOf, judge};
+ghost use Rattle.conditions.specs.inner.Judge.{isByte, deep, verdictOf, judge};
 ghost use Rattle.conditions.specs.inner.Reading.{isAt, nameAt, digitAt, joined, others};
-ghost use Rattle.conditions.specs.inner.Reading.{closed, Meant, wholly, conditionOf};
+ghost use Rattle.conditions.specs.inner.Reading.{closed, ReadsAs, wholly, conditionOf};
+
+// At most so many parentheses are open at one place.
+const MOST_OPEN: usize = 8;
 
 // What was read: the set of letters, whether a name is unknown, and the place past it; or nothing.
 pub enum Read {
@@ -161,7 +164,7 @@ fn close(s: &[u8], part: Read) -> Read
 
 // A choice: one or more terms joined by `|`.
 fn choice(s: &[u8], at: usize, names: [Name; MOST_SIGNALS], signals: u8) -> Read
-    ensures { λ r. ⌜ Meant (take signals names) (width signals) (now (s .entry))
+    ensures { λ r. ⌜ ReadsAs (take signals names) (width signals) (now (s .entry))
         Kind.choice at r ⌝ }
 {
     match term(s, at, names, signals) {
@@ -178,7 +181,7 @@ fn choice(s: &[u8], at: usize, names: [Name; MOST_SIGNALS], signals: u8) -> Read
 
 // A term: one or more factors joined by `&`.
 fn term(s: &[u8], at: usize, names: [Name; MOST_SIGNALS], signals: u8) -> Read
-    ensures { λ r. ⌜ Meant (take signals names) (width signals) (now (s .entry))
+    ensures { λ r. ⌜ ReadsAs (take signals names) (width signals) (now (s .entry))
         Kind.term at r ⌝ }
 {
     match factor(s, at, names, signals) {
@@ -195,7 +198,7 @@ fn term(s: &[u8], at: usize, names: [Name; MOST_SIGNALS], signals: u8) -> Read
 
 // A factor: `!` and a factor, a choice in parentheses, or `0`, `1` or a name.
 fn factor(s: &[u8], at: usize, names: [Name; MOST_SIGNALS], signals: u8) -> Read
-    ensures { λ r. ⌜ Meant (take signals names) (width signals) (now (s .entry))
+    ensures { λ r. ⌜ ReadsAs (take signals names) (width signals) (now (s .entry))
         Kind.factor at r ⌝ }
 {
     if is_at(s, at, b'!') {
@@ -229,7 +232,8 @@ fn condition(s: &[u8], names: [Name; MOST_SIGNALS], signals: u8) -> Read
     whole(s.len(), choice(s, 0, names, signals))
 }
 
-fn told(part: Read) -> Judged
+// What is said of what was read.
+fn verdict(part: Read) -> Judged
     ensures { λ r. ⌜ r ≡ verdictOf part ⌝ }
 {
     match part {
@@ -244,9 +248,9 @@ fn told(part: Read) -> Judged
     }
 }
 
-// 1 where the byte is x.
-fn tick(b: u8, x: u8) -> usize
-    ensures { λ r. ⌜ r ≡ one b x ⌝ }
+// 1 where the byte b is x, else 0.
+fn is_byte(b: u8, x: u8) -> usize
+    ensures { λ r. ⌜ r ≡ isByte b x ⌝ }
 {
     if b == x { 1 } else { 0 }
 }
@@ -260,9 +264,9 @@ fn too_deep(s: &[u8]) -> bool
     let mut i: usize = 0;
     while i < s.len() {
         let b = s[i];
-        opened += tick(b, b'(');
-        closed += tick(b, b')');
-        if closed + 8 < opened {
+        opened += is_byte(b, b'(');
+        closed += is_byte(b, b')');
+        if closed + MOST_OPEN < opened {
             return true;
         }
         i += 1;
@@ -277,6 +281,6 @@ pub fn judge_condition(s: &[u8], names: [Name; MOST_SIGNALS], signals: u8) -> Ju
     if too_deep(s) {
         Judged::Refused(11)
     } else {
-        told(condition(s, names, signals))
+        verdict(condition(s, names, signals))
     }
 }

@@ -14,7 +14,7 @@ use Rattle.table.specs.declared.Table.{Table}
 use Rattle.reader.specs.Grammar.{IsFile}
 use Rattle.reader.specs.Right.{RightReading, is2}
 use Rattle.reader.specs.inner.File.{readAnswer}
-use Rattle.reader.proofs.Accepted.{Told, taken, turned, read-told, file-accepted}
+use Rattle.reader.proofs.Accepted.{FileAnswer, taken, turned, file-answer, file-accepted}
 use Rattle.reader.proofs.Fits.{file-fits}
 use Rattle.reader.proofs.Found.{read-answered}
 use Rattle.reader.proofs.Only.{read-only}
@@ -32,7 +32,7 @@ use Rattle.demands.proofs.Described.{described, computed}
 use Rattle.demands.proofs.Reporting.{program-shows}
 
 module _ (bytes : List ℕ) (lent : Lent) where
-  by-reading : Told bytes (readAnswer bytes) → RightReport bytes lent (checkAnswer bytes lent)
+  by-reading : FileAnswer bytes (readAnswer bytes) → RightReport bytes lent (checkAnswer bytes lent)
   unfolding checkAnswer reportLines
   by-reading (taken table file e) =
       rw e (searched file (described table lent (one-of-five table lent)))
@@ -40,7 +40,7 @@ module _ (bytes : List ℕ) (lent : Lent) where
       rw e (refused (subst (RightReading bytes) e (read-answered bytes)))
 
   pub report-answered : RightReport bytes lent (checkAnswer bytes lent)
-  report-answered = by-reading (read-told bytes)
+  report-answered = by-reading (file-answer bytes)
 
   pub report-only : (f : FileReport) → RightReport bytes lent f → checkAnswer bytes lent ≡ f
   unfolding checkAnswer reportLines
@@ -62,14 +62,14 @@ module _ (bytes : List ℕ) where
   by-answer table file (isTrapped {w = w} f t l) =
       rw (written-front w (programLent .trace) l) (trapped _ _ _ w _)
 
-  by-told : Told bytes (readAnswer bytes)
+  by-file : FileAnswer bytes (readAnswer bytes)
       → ProgramPrints (checkAnswer bytes programLent .report)
   unfolding checkAnswer reportLines
-  by-told (taken table file e) = rw e (by-answer table file (one-of-five table programLent))
-  by-told (turned number line one small low e) = rw e (refusal number line one small)
+  by-file (taken table file e) = rw e (by-answer table file (one-of-five table programLent))
+  by-file (turned number line one small low e) = rw e (refusal number line one small)
 
   pub program-prints : ProgramPrints (checkAnswer bytes programLent .report)
-  program-prints = by-told (read-told bytes)
+  program-prints = by-file (file-answer bytes)
 
 -- The first bytes of a file that is too long say so.
 pub first-bytes : (bytes : List ℕ) (lent : Lent)

@@ -1,12 +1,12 @@
 -- Line 2, word by word: what the loop over its words keeps, and what it comes to. Assumes nothing.
 use Prim.Native.Nat.{ℕ, zero, suc, _+_, _-_, _<_, _≤_}
-use native.Mathlib.Decide.{decLe, decLt}
+use native.Mathlib.Decide.{decLe, decLt, ℕ-discrete}
 use native.Mathlib.Numerals.{add-one}
 use native.Mathlib.Omega.{arith}
-use mathlib.Core.Bool.{true, false, _&&_, cond, and-false}
+use mathlib.Core.Bool.{Bool, true, false, _&&_, cond, and-false}
 use mathlib.Core.List.{List, [], _∷_, _++_, map, map-append, append-assoc, append-nil}
 use mathlib.Core.Path.{_≡_, refl, sym, ap, ap₂, _∙_}
-use borrow.Author.Tests.{le-leb, lt-leb, lt-ltb, le-ltb}
+use borrow.Author.Tests.{eq-eqb, ne-eqb, le-leb, lt-leb, lt-ltb, le-ltb}
 use lib.Dec.{leb, ltb, eqb·suc-zero}
 use lib.ListN.{length, take, drop, set, replicate, length-append, length-map, drop-of-length-le}
 use lib.Seq.{drop-cons, drop-drop, drop-length, take-append-le, set-at, take-append-add}
@@ -23,7 +23,7 @@ use Rattle.conditions.specs.Condition.{nameOf}
 use Rattle.header.specs.Header.{signalsWord, noName, namesFrom}
 use Rattle.header.specs.inner.Header.{nameShaped, signalsNumber, signalsRefused}
 use Rattle.header.specs.inner.Header.{signalsAnswer}
-use Rattle.header.specs.inner.Gathering.{nameAdded}
+use Rattle.header.specs.inner.Gathering.{nameAdded, namesAnswer}
 
 -- The words after a word that has ended: nothing is left, or a separator and words.
 unfoldable pub wordsAfter : ℕ → List ℕ → List (List ℕ)
@@ -197,11 +197,11 @@ module _ (l : List ℕ) (first : front space l ≡ signalsWord) where
             e,
           )))
 
-      pub answer-good : allDistinct (map nameOf ws) ≡ true
+      pub answer-accepted : allDistinct (map nameOf ws) ≡ true
           → signalsAnswer (split space l)
           ≡ record { number = 0; count = length ws; names = namesFrom ws }
       unfolding signalsAnswer signalsNumber
-      answer-good e =
+      answer-accepted e =
           rw (
             words-are,
             right,
@@ -263,10 +263,10 @@ module _ (line : List ℕ) (first : front space line ≡ signalsWord) (done : Li
   all-many : length (wordsAfter space (drop 7 line)) ≡ n
   all-many = rw all (p .many)
 
-  pub ends-none : n ≡ 0 → signalsAnswer (split space line) ≡ signalsRefused 6
+  ends-none : n ≡ 0 → signalsAnswer (split space line) ≡ signalsRefused 6
   ends-none e = answer-none line first (all ∙ length-none done (p .many ∙ e))
 
-  pub ends-many : mostSignals < n → signalsAnswer (split space line) ≡ signalsRefused 7
+  ends-many : mostSignals < n → signalsAnswer (split space line) ≡ signalsRefused 7
   ends-many h = answer-many line first all-right (rw all-many h)
 
   module _ (some : n ≡ 0 → ⊥) (few : n ≤ mostSignals) where
@@ -282,13 +282,28 @@ module _ (line : List ℕ) (first : front space line ≡ signalsWord) (done : Li
     high : length (wordsAfter space (drop 7 line)) ≤ mostSignals
     high = rw all-many few
 
-    pub ends-twice : allDistinct (take n names) ≡ false
+    ends-twice : allDistinct (take n names) ≡ false
         → signalsAnswer (split space line) ≡ signalsRefused 8
     ends-twice e = answer-twice line first all-right low high (rw (all, ← kept-names) e)
 
-    pub ends-good : allDistinct (take n names) ≡ true
+    ends-accepted : allDistinct (take n names) ≡ true
         → signalsAnswer (split space line) ≡ record { number = 0; count = n; names = names }
-    ends-good e =
-        answer-good line first all-right low high (rw (all, ← kept-names) e)
+    ends-accepted e =
+        answer-accepted line first all-right low high (rw (all, ← kept-names) e)
         ∙ ap₂ (λ (k : ℕ) (l : List Name). record { number = 0; count = k; names = l }) all-many
         (ap namesFrom all ∙ sym kept-all)
+
+  -- What the names come to.
+  pub ends-answer : signalsAnswer (split space line) ≡ namesAnswer names n
+  unfolding namesAnswer
+  ends-answer = go (ℕ-discrete n 0) (decLe n mostSignals) (allDistinct (take n names)) refl
+    where
+      go : Dec (n ≡ 0) → Dec (n ≤ mostSignals) → (t : Bool) → allDistinct (take n names) ≡ t
+          → signalsAnswer (split space line) ≡ namesAnswer names n
+      go (yes none) few t e = rw (eq-eqb n 0 none) (ends-none none)
+      go (no some) (no many) t e =
+          rw (ne-eqb n 0 some, lt-ltb mostSignals n (omega arith)) (ends-many (omega arith))
+      go (no some) (yes few) true e =
+          rw (ne-eqb n 0 some, le-ltb mostSignals n few, e) (ends-accepted some few e)
+      go (no some) (yes few) false e =
+          rw (ne-eqb n 0 some, le-ltb mostSignals n few, e) (ends-twice some few e)

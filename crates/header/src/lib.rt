@@ -1,5 +1,5 @@
 // Reading lines 1 and 2: the version, and the names of the signals. specs/Header.antt says what is
-// right, and which of 4 to 8 other bytes get.
+// right, specs/inner/Header.antt which of 4 to 8 other bytes get.
 use table::MOST_SIGNALS;
 use table::NAME_LETTERS;
 use table::Name;
@@ -9,7 +9,7 @@ ghost use Rattle.text.specs.inner.Cut.{split};
 ghost use Rattle.header.specs.Header.{isDigit16};
 ghost use Rattle.header.specs.inner.Header.{headerNumber, nameShaped, signalsRefused};
 ghost use Rattle.header.specs.inner.Header.{signalsAnswer};
-ghost use Rattle.header.specs.inner.Gathering.{nameAdded};
+ghost use Rattle.header.specs.inner.Gathering.{nameAdded, namesAnswer};
 
 // Line 2: its number, or 0; and the names, of which the first `count` are used. Under a number all
 // is 0.
@@ -99,6 +99,27 @@ fn with_name(kept: Kept, n: usize, name: Name) -> Kept
     more
 }
 
+// The first n names that were read; or 6, 7 or 8, in this order.
+fn judge_names(kept: Kept, n: usize) -> Signals
+    ensures { λ r. ⌜ r ≡ namesAnswer (kept .names) n ⌝ }
+{
+    if n == 0 {
+        return turned_down(6);
+    }
+    if MOST_SIGNALS < n {
+        return turned_down(7);
+    }
+    let names = kept.names;
+    if !table::names::distinct(names, n) {
+        return turned_down(8);
+    }
+    Signals {
+        number: 0,
+        count: n as u8,
+        names,
+    }
+}
+
 // The names of line 2; or 6, 7 or 8, in this order, each over the whole line.
 pub fn read_signals(line: &[u8]) -> Signals
     ensures { λ r. ⌜ r ≡ signalsAnswer (split space (now (line .entry))) ⌝ }
@@ -129,19 +150,5 @@ pub fn read_signals(line: &[u8]) -> Signals
         n += 1;
         at = end;
     }
-    if n == 0 {
-        return turned_down(6);
-    }
-    if MOST_SIGNALS < n {
-        return turned_down(7);
-    }
-    let names = kept.names;
-    if !table::names::distinct(names, n) {
-        return turned_down(8);
-    }
-    Signals {
-        number: 0,
-        count: n as u8,
-        names,
-    }
+    judge_names(kept, n)
 }

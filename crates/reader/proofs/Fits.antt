@@ -28,7 +28,7 @@ use Rattle.reader.specs.Grammar.{Each, none, and, IsFile}
 use Rattle.reader.proofs.Only.{names-taken}
 use Rattle.text.specs.Lines.{All, none as all-none, and as all-and}
 use Rattle.conditions.specs.Judge.{IsCondition}
-use Rattle.rows.specs.Row.{FieldKind, condition, bound, fieldKinds, IsField, AreFields}
+use Rattle.rows.specs.Row.{FieldKind, aCondition, aBound, fieldKinds, IsField, AreFields}
 use Rattle.rows.specs.Row.{none as nothing, and as also, rowValues, Ordered, IsRow}
 use Rattle.rows.proofs.Rules.{rowOf, row-same}
 
@@ -66,13 +66,13 @@ module _ (names : List Name) (s : ℕ) where
 
   -- What the kinds of its fields say of the values of a row.
   abbrev Held : FieldKind → ℕ → Type 0
-  Held condition v = setFits s v ≡ true
-  Held bound v = v ≤ mostTicks
+  Held aCondition v = setFits s v ≡ true
+  Held aBound v = v ≤ mostTicks
 
   field-held : (kind : FieldKind) (xs : List ℕ) (v : ℕ) → IsField names (width s) kind xs v
       → Held kind v
-  field-held condition xs v h = condition-fits h
-  field-held bound xs v h = h .small
+  field-held aCondition xs v h = condition-fits h
+  field-held aBound xs v h = h .small
 
   fields-held : {kinds : List FieldKind} {fields : List (List ℕ)} {values : List ℕ}
       → AreFields names (width s) kinds fields values → Each Held kinds values
@@ -80,7 +80,7 @@ module _ (names : List Name) (s : ℕ) where
   fields-held (also {kind} {xs} {v} h more) = and (field-held kind xs v h) (fields-held more)
 
   held-at : {kinds : List FieldKind} {values : List ℕ} → Each Held kinds values → (i : ℕ)
-      → i < length kinds → Held (getD kinds i bound) (getD values i 0)
+      → i < length kinds → Held (getD kinds i aBound) (getD values i 0)
   held-at none i h = absurd (omega arith)
   held-at (and h more) zero low = h
   held-at (and h more) (suc i) low = held-at more i (omega arith)
@@ -132,8 +132,8 @@ module _ (bytes : List ℕ) (t : Table) (f : IsFile bytes t) where
         names-taken (f .names),
         drop-at known free s
             (length-map (f .names) nameOf),
-        names-fit (f .names) (f .begins .named .signals .named),
-        f .begins .differ,
+        names-fit (f .names) (f .header .has-names .signals .named),
+        f .header .differ,
       )
       (every-same nameUnused noName no-name (mostSignals - s))
 
@@ -147,7 +147,7 @@ module _ (bytes : List ℕ) (t : Table) (f : IsFile bytes t) where
         take-at (f .rows) free many refl,
         drop-at (f .rows) free many refl,
         within-true 1 mostRows many (f .rows-some) (f .rows-few),
-        within-true 1 mostSignals s (f .begins .named .signals .some) (f .begins .few),
+        within-true 1 mostSignals s (f .header .has-names .signals .some) (f .header .few),
         rows-fit known s (f .rules) (f .rows) (f .rows-are),
         names-are-fit,
       )

@@ -21,7 +21,7 @@ use Rattle.header.proofs.Shapes.{misshapen as misshapen2, line2}
 use Rattle.header.proofs.SignalLaws.{length-none}
 use Rattle.rows.specs.Row.{RowFault}
 use Rattle.rows.proofs.Rules.{RowFound, isRow, noRow, row-found}
-use Rattle.reader.specs.Grammar.{AreLines, Named, Begins, none, and, AreRows}
+use Rattle.reader.specs.Grammar.{AreLines, HasNames, HasHeader, none, and, AreRows}
 use Rattle.reader.specs.Right.{RightReading, is1, is2, is3, is4, is5, is6missing, is6, is7}
 use Rattle.reader.specs.Right.{is8, is9, isFault, is16, isTable}
 use Rattle.reader.specs.inner.File.{readAnswer}
@@ -68,7 +68,7 @@ module _ (bytes : List ℕ) where
   abbrev Answer : Type 0
   Answer = (r : Reading) × RightReading bytes r
 
-  rules-found : (names rules : List (List ℕ)) → Begins bytes names rules → Answer
+  rules-found : (names rules : List (List ℕ)) → HasHeader bytes names rules → Answer
   rules-found names [] b = (_, is16 b)
   rules-found names (line ∷ rest) b = go (rows-found names mostRows (line ∷ rest))
     where
@@ -79,7 +79,7 @@ module _ (bytes : List ℕ) where
           names = names;
           rules = line ∷ rest;
           rows = rows;
-          begins = b;
+          header = b;
           rows-are = are;
           rows-some = omega (arith, each-length are);
           rows-few = omega (arith, each-length are);
@@ -87,11 +87,11 @@ module _ (bytes : List ℕ) where
         }),
       )
       go (one before rows fault more number e are low f) =
-          (_, isFault fault more (subst (Begins bytes names) e b) are low f)
+          (_, isFault fault more (subst (HasHeader bytes names) e b) are low f)
       go (over before rows ninth more e are full) =
-          (_, is9 ninth more (subst (Begins bytes names) e b) are full)
+          (_, is9 ninth more (subst (HasHeader bytes names) e b) are full)
 
-  signals-found : (names rest : List (List ℕ)) → Named bytes names rest → Answer
+  signals-found : (names rest : List (List ℕ)) → HasNames bytes names rest → Answer
   signals-found names rest n =
       go (decLe (length names) mostSignals) (allDistinct (map nameOf names)) refl
     where
@@ -99,7 +99,7 @@ module _ (bytes : List ℕ) where
           → Answer
       go (no many) t e = (_, is7 n (omega arith))
       go (yes few) false e = (_, is8 n few e)
-      go (yes few) true e = rules-found names rest (record { named = n; few = few; differ = e })
+      go (yes few) true e = rules-found names rest (record { has-names = n; few = few; differ = e })
 
   body-found : (body : List (List ℕ)) → AreLines bytes ((PNP ++ version1) ∷ body) → Answer
   body-found [] l = (_, is6missing l)

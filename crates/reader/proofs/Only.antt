@@ -24,7 +24,7 @@ use Rattle.rows.specs.inner.Row.{rowAnswer}
 use Rattle.rows.specs.declared.RowRead.{RowRead}
 use Rattle.rows.proofs.Rules.{row-read, fault-read}
 use Rattle.reader.specs.Reading.{tableFrom, accepted, refusedFile}
-use Rattle.reader.specs.Grammar.{AreLines, Begins, Each, none, and, AreRows, IsFile}
+use Rattle.reader.specs.Grammar.{AreLines, HasHeader, Each, none, and, AreRows, IsFile}
 use Rattle.reader.specs.Right.{RightReading, is1, is2, is3, is4, is5, is6missing, is6, is7}
 use Rattle.reader.specs.Right.{is8, is9, isFault, is16, isTable}
 use Rattle.reader.specs.inner.File.{Rows, rowsRead, fault, afterRow, rowOf, rowsFrom}
@@ -117,10 +117,10 @@ module _ (bytes : List ℕ) where
   unfolding bodyAnswer
   signals-next line rest l = body-read (line ∷ rest) l
 
-  rules-next : (names rules : List (List ℕ)) → Begins bytes names rules
+  rules-next : (names rules : List (List ℕ)) → HasHeader bytes names rules
       → readAnswer bytes ≡ rowsAnswer (namesFrom names) (length names) rules
   rules-next names rules b =
-      let n = b .named in
+      let n = b .has-names in
       signals-next (n .line2) rules (n .lines)
       ∙ ap (λ (r : Signals). afterSignals r rules)
       (signals-read (n .line2) names (n .signals) (b .few) (b .differ))
@@ -129,7 +129,7 @@ module _ (bytes : List ℕ) where
   rows-fault : (names rules : List (List ℕ)) (rows : List Row) (line : List ℕ)
       (rest : List (List ℕ)) → AreRows names rules rows → length rules ≤ mostRows
       → (number place : ℕ) → rowsAt names (length rules) (line ∷ rest) ≡ fault number place
-      → Begins bytes names (rules ++ line ∷ rest) → readAnswer bytes ≡ refusedFile number place
+      → HasHeader bytes names (rules ++ line ∷ rest) → readAnswer bytes ≡ refusedFile number place
   unfolding rowsAnswer
   rows-fault names rules rows line rest are few number place e b =
       rules-next names (rules ++ line ∷ rest) b
@@ -150,7 +150,7 @@ module _ (bytes : List ℕ) where
   table-read : (table : Table) → IsFile bytes table → readAnswer bytes ≡ accepted table
   unfolding rowsAnswer rowsFrom
   table-read table f =
-      rules-next (f .names) (f .rules) (f .begins)
+      rules-next (f .names) (f .rules) (f .header)
       ∙ go (f .rules) (each-length (f .rows-are))
       (sym (ap (rowsAt (f .names) 0) (append-nil (f .rules)))
       ∙ rows-after (f .names) 0 (f .rules) (f .rows) (f .rows-are)

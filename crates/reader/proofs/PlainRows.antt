@@ -18,7 +18,7 @@ use Rattle.text.specs.Bounds.{decimal}
 use Rattle.text.specs.Lines.{ended, joined, count, comma, All, none as all-none, and as all-and}
 use Rattle.text.proofs.Decimals.{decimal-length}
 use Rattle.conditions.specs.Condition.{oneTerm, oneFactor, never, text, holdsAt, unknown}
-use Rattle.rows.specs.Row.{ruleWord, FieldKind, condition, bound, fieldKinds, rowValues, IsField}
+use Rattle.rows.specs.Row.{ruleWord, FieldKind, aCondition, aBound, fieldKinds, rowValues, IsField}
 use Rattle.rows.specs.Row.{AreFields, none as nothing, and as also, IsRow}
 use Rattle.rows.proofs.Fields.{fields-free}
 use Rattle.conditions.specs.Judge.{IsCondition}
@@ -70,8 +70,8 @@ bare row = record {
 
 -- The texts of fields with these values, where conditions are `0`.
 abbrev fieldText : FieldKind → ℕ → List ℕ
-fieldText condition v = zeroText
-fieldText bound v = decimal v
+fieldText aCondition v = zeroText
+fieldText aBound v = decimal v
 
 unfoldable pub fieldTexts : List FieldKind → List ℕ → List (List ℕ)
 fieldTexts [] values = []
@@ -86,8 +86,8 @@ lineOf row = ruleWord ++ joined comma (textsOf row)
 
 -- What these fields may hold.
 abbrev Plain : FieldKind → ℕ → Type 0
-Plain condition v = v ≡ 0
-Plain bound v = v ≤ mostTicks
+Plain aCondition v = v ≡ 0
+Plain aBound v = v ≤ mostTicks
 
 module _ (names : List Name) (n : ℕ) where
   texts-right : {kinds : List FieldKind} {values : List ℕ} → Each Plain kinds values
@@ -98,8 +98,8 @@ module _ (names : List Name) (n : ℕ) where
     where
       plain : (kind : FieldKind) (v : ℕ) → Plain kind v
           → IsField names n kind (fieldText kind v) v
-      plain condition v h = rw h (zero-condition names n)
-      plain bound v h = record { small = h; bytes = refl }
+      plain aCondition v h = rw h (zero-condition names n)
+      plain aBound v h = record { small = h; bytes = refl }
 
 texts-short : {kinds : List FieldKind} {values : List ℕ} → Each Plain kinds values
     → All (λ piece. length piece ≤ 2) (fieldTexts kinds values)
@@ -108,8 +108,8 @@ texts-short none = all-none
 texts-short (and {a} {b} h more) = all-and (short a b h) (texts-short more)
   where
     short : (kind : FieldKind) (v : ℕ) → Plain kind v → length (fieldText kind v) ≤ 2
-    short condition v h = omega arith
-    short bound v h = decimal-length 1 v (omega arith)
+    short aCondition v h = omega arith
+    short aBound v h = decimal-length 1 v (omega arith)
 
 bare-plain : (row : Row) → RowBounds row → Each Plain fieldKinds (rowValues (bare row))
 bare-plain row b =

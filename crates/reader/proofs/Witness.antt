@@ -159,8 +159,8 @@ module _ (table : Table) (sized : Sized table) (fits : tableFits table ≡ true)
       names = words;
       rules = map lineOf (rowsOf table);
       rows = rows;
-      begins = record {
-        named = record { line2 = _; lines = lines-are; signals = signals-are };
+      header = record {
+        has-names = record { line2 = _; lines = lines-are; signals = signals-are };
         few = omega (arith, words-length, tableFits-signals table fits);
         differ = rw (words-names used used-eight (names-parts .0)) (names-parts .1);
       };

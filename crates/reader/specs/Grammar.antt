@@ -24,14 +24,14 @@ pub record AreLines (bytes : List ℕ) (lines : List (List ℕ)) : Type 0 where
   pub few : length bytes ≤ mostBytes
 
 -- Line 1 is right, line 2 has its shape, with these names, and these lines follow.
-pub record Named (bytes : List ℕ) (names rest : List (List ℕ)) : Type 0 where
+pub record HasNames (bytes : List ℕ) (names rest : List (List ℕ)) : Type 0 where
   pub line2 : List ℕ
   pub lines : AreLines bytes ((PNP ++ version1) ∷ line2 ∷ rest)
   pub signals : IsSignals line2 names
 
 -- Line 2 is right too: "1 to 6 signals", and no name twice.
-pub record Begins (bytes : List ℕ) (names rest : List (List ℕ)) : Type 0 where
-  pub named : Named bytes names rest
+pub record HasHeader (bytes : List ℕ) (names rest : List (List ℕ)) : Type 0 where
+  pub has-names : HasNames bytes names rest
   pub few : length names ≤ mostSignals
   pub differ : allDistinct (map nameOf names) ≡ true
 
@@ -49,7 +49,7 @@ pub record IsFile (bytes : List ℕ) (table : Table) : Type 0 where
   pub names : List (List ℕ)
   pub rules : List (List ℕ)
   pub rows : List Row
-  pub begins : Begins bytes names rules
+  pub header : HasHeader bytes names rules
   pub rows-are : AreRows names rules rows
   pub rows-some : 1 ≤ length rows
   pub rows-few : length rows ≤ mostRows

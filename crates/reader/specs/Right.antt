@@ -15,7 +15,7 @@ use Rattle.text.specs.Lines.{LF}
 use Rattle.conditions.specs.Condition.{nameOf}
 use Rattle.header.specs.Header.{PNP, version1, IsHeader, IsSignals}
 use Rattle.rows.specs.Row.{RowFault}
-use Rattle.reader.specs.Grammar.{AreLines, Named, Begins, AreRows, IsFile}
+use Rattle.reader.specs.Grammar.{AreLines, HasNames, HasHeader, AreRows, IsFile}
 use Rattle.reader.specs.Reading.{accepted, refusedFile}
 use Rattle.reader.specs.declared.Reading.{Reading}
 
@@ -41,20 +41,20 @@ module _ (bytes : List ℕ) where
     is6 : {line : List ℕ} {rest : List (List ℕ)} → AreLines bytes ((PNP ++ version1) ∷ line ∷ rest)
         → ((names : List (List ℕ)) → IsSignals line names → ⊥) → RightReading (refusedFile 6 2)
     -- "over six signals"
-    is7 : {names rest : List (List ℕ)} → Named bytes names rest → mostSignals < length names
+    is7 : {names rest : List (List ℕ)} → HasNames bytes names rest → mostSignals < length names
         → RightReading (refusedFile 7 2)
     -- "a name twice"
-    is8 : {names rest : List (List ℕ)} → Named bytes names rest → length names ≤ mostSignals
+    is8 : {names rest : List (List ℕ)} → HasNames bytes names rest → length names ≤ mostSignals
         → allDistinct (map nameOf names) ≡ false → RightReading (refusedFile 8 2)
     -- "ninth row": whatever it holds
     is9 : {names rules : List (List ℕ)} {rows : List Row} (line : List ℕ) (rest : List (List ℕ))
-        → Begins bytes names (rules ++ line ∷ rest) → AreRows names rules rows
+        → HasHeader bytes names (rules ++ line ∷ rest) → AreRows names rules rows
         → length rules ≡ mostRows → RightReading (refusedFile 9 (mostRows + 3))
     -- 10 to 15, of the first line that is no row
     isFault : {names rules : List (List ℕ)} {rows : List Row} {number : ℕ} (line : List ℕ)
-        (rest : List (List ℕ)) → Begins bytes names (rules ++ line ∷ rest) → AreRows names rules rows
+        (rest : List (List ℕ)) → HasHeader bytes names (rules ++ line ∷ rest) → AreRows names rules rows
         → length rules < mostRows → RowFault (map nameOf names) (width (length names)) line number
         → RightReading (refusedFile number (length rules + 3))
     -- "no row"
-    is16 : {names : List (List ℕ)} → Begins bytes names [] → RightReading (refusedFile 16 3)
+    is16 : {names : List (List ℕ)} → HasHeader bytes names [] → RightReading (refusedFile 16 3)
     isTable : {table : Table} → IsFile bytes table → RightReading (accepted table)

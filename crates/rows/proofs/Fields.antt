@@ -20,15 +20,15 @@ use Rattle.conditions.specs.declared.Judged.{Judged}
 use Rattle.conditions.specs.declared.Judged.the-variants.{Letters, Refused as NoCondition}
 use Rattle.conditions.proofs.Judging.{judge-right, right-judge, judge-some}
 use Rattle.conditions.proofs.Signs.{inCondition, condition-free}
-use Rattle.rows.specs.Row.{FieldKind, condition, bound, fieldKinds, IsField, AreFields, none}
-use Rattle.rows.specs.Row.{and, FirstFault, noCondition, noBound, later}
+use Rattle.rows.specs.Row.{FieldKind, aCondition, aBound, fieldKinds, IsField, AreFields}
+use Rattle.rows.specs.Row.{none, and, FirstFault, noCondition, noBound, later}
 use Rattle.rows.specs.inner.Row.{boundAt, fieldOf, fieldsOf, numberAmong}
 use Rattle.rows.specs.declared.Field.the-variants.{Value}
 
 -- The kinds of the fields from field k on are these.
 abbrev isBoundKind : FieldKind → Bool
-isBoundKind condition = false
-isBoundKind bound = true
+isBoundKind aCondition = false
+isBoundKind aBound = true
 
 pub data KindsFrom : ℕ → List FieldKind → Type 0 where
   end : {k : ℕ} → KindsFrom k []
@@ -45,8 +45,8 @@ module _ (names : List Name) (n : ℕ) where
   field-value : (k : ℕ) (kind : FieldKind) → boundAt k ≡ isBoundKind kind → (xs : List ℕ) (v : ℕ)
       → IsField names n kind xs v → fieldOf names n k xs ≡ Value v
   unfolding fieldOf
-  field-value k condition e xs v h = rw (e, right-judge names n xs (Letters v) (isSet h))
-  field-value k bound e xs v h = rw (e, boundOf-complete xs v h)
+  field-value k aCondition e xs v h = rw (e, right-judge names n xs (Letters v) (isSet h))
+  field-value k aBound e xs v h = rw (e, boundOf-complete xs v h)
 
   pub fields-values : {k : ℕ} {kinds : List FieldKind} {fields : List (List ℕ)} {values : List ℕ}
       → KindsFrom k kinds → AreFields names n kinds fields values
@@ -87,18 +87,18 @@ module _ (names : List Name) (n : ℕ) where
       rest kind v h (fault number first) = fault number (later {kind = kind} v h first)
 
       judged : (j : Judged) → RightCondition names n xs j → FieldsFound kinds fields
-          → FieldsFound (condition ∷ kinds) (xs ∷ fields)
-      judged (Letters v) (isSet c) others = rest condition v c others
+          → FieldsFound (aCondition ∷ kinds) (xs ∷ fields)
+      judged (Letters v) (isSet c) others = rest aCondition v c others
       judged (NoCondition m) h others = fault m (noCondition h)
 
       bounded : (b : Bound) → boundOf xs ≡ b → FieldsFound kinds fields
-          → FieldsFound (bound ∷ kinds) (xs ∷ fields)
-      bounded (Ticks v) is others = rest bound v (boundOf-right xs v is) others
+          → FieldsFound (aBound ∷ kinds) (xs ∷ fields)
+      bounded (Ticks v) is others = rest aBound v (boundOf-right xs v is) others
       bounded Wrong is others = fault 14 (noBound (boundOf-wrong xs is))
 
       go : (kind : FieldKind) → FieldsFound kinds fields → FieldsFound (kind ∷ kinds) (xs ∷ fields)
-      go condition = judged (judge names n xs) (judge-right names n xs)
-      go bound = bounded (boundOf xs) refl
+      go aCondition = judged (judge names n xs) (judge-right names n xs)
+      go aBound = bounded (boundOf xs) refl
 
   -- A byte of neither conditions nor bounds is in no field.
   pub fields-free : (b : ℕ) → inCondition b ≡ false → within 48 57 b ≡ false
@@ -110,5 +110,5 @@ module _ (names : List Name) (n : ℕ) where
     where
       free : (kind : FieldKind) (xs : List ℕ) (v : ℕ) → IsField names n kind xs v
           → count b xs ≡ 0
-      free condition xs v h = condition-free names n b e h
-      free bound xs v h = rw (← h .bytes) (decimal-free b d v)
+      free aCondition xs v h = condition-free names n b e h
+      free aBound xs v h = rw (← h .bytes) (decimal-free b d v)

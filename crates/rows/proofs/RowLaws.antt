@@ -254,9 +254,9 @@ module _ (fields : List Field) (values : Values) (read : values ≡ valuesAnswer
     unfolding valuesAnswer
     values-held = rw (read, clean)
 
-    pub row-good : rowFields fields ≡ rowRead (values .values)
+    pub row-passed : rowFields fields ≡ rowRead (values .values)
     unfolding rowFields
-    row-good = rw (clean, values-held)
+    row-passed = rw (clean, values-held)
 
 -- The values of the bounds are below 256.
 module _ (names : List Name) (n : ℕ) (pieces : List (List ℕ)) where

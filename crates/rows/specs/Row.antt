@@ -17,12 +17,12 @@ abbrev pub ruleWord : List ℕ
 ruleWord = bytes "rule "
 
 pub data FieldKind : Type 0 where
-  condition bound : FieldKind
+  aCondition aBound : FieldKind
 
 abbrev pub fieldKinds : List FieldKind
 fieldKinds =
-    condition ∷ condition ∷ condition ∷ bound ∷ bound ∷ bound ∷ bound ∷ condition ∷ condition
-    ∷ condition ∷ bound ∷ bound ∷ []
+    aCondition ∷ aCondition ∷ aCondition ∷ aBound ∷ aBound ∷ aBound ∷ aBound ∷ aCondition ∷ aCondition
+    ∷ aCondition ∷ aBound ∷ aBound ∷ []
 
 pub record IsRule (line : List ℕ) (fields : List (List ℕ)) : Type 0 where
   pub line-is : line ≡ ruleWord ++ joined comma fields
@@ -43,8 +43,8 @@ pub record Ordered (row : Row) : Type 0 where
 
 module _ (names : List Name) (letters : ℕ) where
   abbrev pub IsField : FieldKind → List ℕ → ℕ → Type 0
-  IsField condition xs v = IsCondition names letters xs v
-  IsField bound xs v = IsBound xs v
+  IsField aCondition xs v = IsCondition names letters xs v
+  IsField aBound xs v = IsBound xs v
 
   -- Fields of these kinds, that are all right, with these values.
   pub data AreFields : List FieldKind → List (List ℕ) → List ℕ → Type 0 where
@@ -69,9 +69,9 @@ module _ (names : List Name) (letters : ℕ) where
   pub data FirstFault : List FieldKind → List (List ℕ) → ℕ → Type 0 where
     noCondition : {xs : List ℕ} {number : ℕ} {kinds : List FieldKind} {fields : List (List ℕ)}
         → RightCondition names letters xs (Refused number)
-        → FirstFault (condition ∷ kinds) (xs ∷ fields) number
+        → FirstFault (aCondition ∷ kinds) (xs ∷ fields) number
     noBound : {xs : List ℕ} {kinds : List FieldKind} {fields : List (List ℕ)}
-        → ((n : ℕ) → IsBound xs n → ⊥) → FirstFault (bound ∷ kinds) (xs ∷ fields) 14
+        → ((n : ℕ) → IsBound xs n → ⊥) → FirstFault (aBound ∷ kinds) (xs ∷ fields) 14
     later : {kind : FieldKind} {xs : List ℕ} {kinds : List FieldKind} {fields : List (List ℕ)}
         {number : ℕ} (v : ℕ) → IsField kind xs v
         → FirstFault kinds fields number → FirstFault (kind ∷ kinds) (xs ∷ fields) number

@@ -1,5 +1,5 @@
 // Reading one row's line: six conditions and six bounds. specs/Row.antt says what is right, and
-// which of 10 to 15 other bytes get.
+// which of 10 to 15 another line gets.
 use conditions::Judged;
 use table::CONDITIONS;
 use table::MOST_SIGNALS;
@@ -79,11 +79,11 @@ fn condition_field(s: &[u8], names: [Name; MOST_SIGNALS], signals: u8) -> Field
 }
 
 // Field k, which the rest of the line begins with: it ends at the next comma.
-fn read_field(rest: &[u8], k: usize, names: [Name; MOST_SIGNALS], signals: u8) -> Field
+fn read_field(rest: &[u8], end: usize, k: usize, names: [Name; MOST_SIGNALS], signals: u8) -> Field
+    requires { ⌜ end ≡ length (front comma (now rest)) ⌝ }
     ensures { λ r. ⌜ r ≡ fieldOf (take signals names) (width signals) k
         (front comma (now (rest .entry))) ⌝ }
 {
-    let end = text::find(rest, b',');
     if is_bound(k) {
         bound_field(&rest[..end])
     } else {
@@ -119,7 +119,8 @@ fn read_values(line: &[u8], names: [Name; MOST_SIGNALS], signals: u8) -> Values
     let mut k: usize = 0;
     while k < FIELDS {
         let rest = &line[at..];
-        let field = read_field(rest, k, names, signals);
+        let end = text::find(rest, b',');
+        let field = read_field(rest, end, k, names, signals);
         let Field::Value(v) = field else {
             return Values {
                 number: number_of(field),
@@ -127,7 +128,7 @@ fn read_values(line: &[u8], names: [Name; MOST_SIGNALS], signals: u8) -> Values
             };
         };
         values[k] = v;
-        at = at + text::find(rest, b',') + 1;
+        at = at + end + 1;
         k += 1;
     }
     Values { number: 0, values }

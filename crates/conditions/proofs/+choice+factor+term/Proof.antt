@@ -9,7 +9,7 @@ use native.Mathlib.Omega.{arith}
 use mathlib.Core.Path.{sym, _∙_}
 use lib.ListN.{length}
 use Rattle.conditions.proofs.Bytes.{isAt-lt}
-use Rattle.conditions.proofs.Steps.{meant-starts, choices, terms, joins-nothing, joins-stop}
+use Rattle.conditions.proofs.Steps.{reads-starts, choices, terms, joins-nothing, joins-stop}
 use Rattle.conditions.proofs.Steps.{joins-more, factor-negated, factor-grouped, factor-digit}
 use Rattle.conditions.proofs.choice.Reads as choice
 use Rattle.conditions.proofs.choice.Kinds as choice-kinds
@@ -107,7 +107,7 @@ choice-choice-requires : (t : ℕ) → choice-lts.Need-choice-requires (choice-c
 choice-choice-requires t c κs =
     let inside = isAt-lt _ _ _ (sym (c .before .is-at .ensures) ∙ c .if1 .taken) in
     let part = c .before .before .before .before .before in
-    let starts = meant-starts (part .term .ensures) (c .before .before .before .v .given .1) in
+    let starts = reads-starts (part .term .ensures) (c .before .before .before .v .given .1) in
     omega arith
 
 choice-returns : (t : ℕ) → choice-lts.Need-returns (choice-calls t) (choice-at t) choice.Post
@@ -136,7 +136,7 @@ term-term-requires : (t : ℕ) → term-lts.Need-term-requires (term-calls t) (t
 term-term-requires t c κs =
     let inside = isAt-lt _ _ _ (sym (c .before .is-at .ensures) ∙ c .if1 .taken) in
     let part = c .before .before .before .before .before in
-    let starts = meant-starts (part .factor .ensures) (c .before .before .before .v .given .1) in
+    let starts = reads-starts (part .factor .ensures) (c .before .before .before .v .given .1) in
     omega arith
 
 term-returns : (t : ℕ) → term-lts.Need-returns (term-calls t) (term-at t) term.Post

@@ -1,12 +1,12 @@
 -- `conditions::condition` meets its contract. Assumes nothing.
 use borrow.Author.Needs.{needs}
 use mathlib.Core.Path.{_∙_}
-use Rattle.conditions.proofs.Steps.{conditionOf-meant}
+use Rattle.conditions.proofs.Steps.{conditionOf-reads}
 use Rattle.conditions.proofs.condition.Statement.{statement}
 use Rattle.conditions.proofs.condition.Tie as tie
 
 returns : tie.Need-returns
-returns c = c .whole .ensures ∙ conditionOf-meant (c .before .choice .ensures)
+returns c = c .whole .ensures ∙ conditionOf-reads (c .before .choice .ensures)
 
 pub condition-spec : {M : Type 1} → statement M
 condition-spec =

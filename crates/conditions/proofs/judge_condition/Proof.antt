@@ -16,7 +16,7 @@ returns-2 c =
       c .before .before .if1 .left,
       ← c .before .condition .ensures,
     )
-    (c .told .ensures)
+    (c .verdict .ensures)
 
 pub judge-condition-spec : {M : Type 1} → statement M
 judge-condition-spec =

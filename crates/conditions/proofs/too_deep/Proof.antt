@@ -8,7 +8,7 @@ use native.Mathlib.Omega.{arith}
 use mathlib.Core.Path.{_≡_, sym, _∙_}
 use lib.ListN.{length, getD, drop}
 use Rattle.conditions.specs.inner.Judge.{deep}
-use Rattle.conditions.proofs.Depth.{deep-next, deep-stop, deep-end, one-most}
+use Rattle.conditions.proofs.Depth.{deep-next, deep-stop, deep-end, isByte-most}
 use Rattle.conditions.proofs.too_deep.Statement.{statement}
 use Rattle.conditions.proofs.too_deep.Tie as tie
 
@@ -25,20 +25,20 @@ returns c =
     let loop = turn .before .loop in
     sym (loop .inv .2
     ∙ deep-stop _ (loop .opened) (loop .closed) (loop .i) (turn .loop-test .taken)
-    (c .before .before .tick .ensures) (c .before .tick2 .ensures) (c .if1 .taken))
+    (c .before .before .is-byte .ensures) (c .before .is-byte2 .ensures) (c .if1 .taken))
 
 -- A byte counts at most once.
-opened-most : (c : tie.After-tick Inv-loop μ-loop) → c .tick .result ≤ 1
+opened-most : (c : tie.After-is-byte Inv-loop μ-loop) → c .is-byte .result ≤ 1
 opened-most c =
     let head = c .before .before .before in
     let b = getD (head .before .before .args .s .now) (head .loop .i) 0 in
-    one-most b (code "(") (c .tick .ensures)
+    isByte-most b (code "(") (c .is-byte .ensures)
 
-closed-most : (c : tie.After-tick2 Inv-loop μ-loop) → c .tick2 .result ≤ 1
+closed-most : (c : tie.After-is-byte2 Inv-loop μ-loop) → c .is-byte2 .result ≤ 1
 closed-most c =
     let head = c .before .before .before .before in
     let b = getD (head .before .before .args .s .now) (head .loop .i) 0 in
-    one-most b (code ")") (c .tick2 .ensures)
+    isByte-most b (code ")") (c .is-byte2 .ensures)
 
 add-opened : tie.Need-add-opened Inv-loop μ-loop
 add-opened c = omega (arith, opened-most c)
@@ -57,7 +57,7 @@ loop-again c =
       omega (arith, opened-most (c .before .before)),
       loop .inv .2
           ∙ deep-next _ (loop .opened) (loop .closed) (loop .i) (turn .loop-test .taken)
-          (c .before .before .tick .ensures) (c .before .tick2 .ensures) (c .if1 .left),
+          (c .before .before .is-byte .ensures) (c .before .is-byte2 .ensures) (c .if1 .left),
     )
 
 returns-2 : tie.Need-returns-2 Inv-loop μ-loop

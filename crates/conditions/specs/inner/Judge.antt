@@ -6,6 +6,7 @@ use mathlib.Core.Bool.{Bool, false, _||_, cond}
 use mathlib.Core.List.{List, [], _∷_}
 use lib.Dec.{eqb, ltb}
 use Rattle.table.specs.declared.Name.{Name}
+use Rattle.conditions.specs.Depth.{mostOpen}
 use Rattle.conditions.specs.inner.Reading.{conditionOf}
 use Rattle.conditions.specs.declared.Read.{Read}
 use Rattle.conditions.specs.declared.Read.the-variants.{Set, Nothing}
@@ -13,14 +14,15 @@ use Rattle.conditions.specs.declared.Judged.{Judged}
 use Rattle.conditions.specs.declared.Judged.the-variants.{Letters, Refused}
 
 -- Two counters that run along, of o opening and c closing ones: over 8 are open after some byte.
-abbrev pub one : ℕ → ℕ → ℕ
-one b x = cond (eqb b x) 1 0
+abbrev pub isByte : ℕ → ℕ → ℕ
+isByte b x = cond (eqb b x) 1 0
 
 unfoldable pub deep : ℕ → ℕ → List ℕ → Bool
 deep o c [] = false
 deep o c (b ∷ xs) =
-    ltb (c + one b (code ")") + 8) (o + one b (code "(")) || deep (o + one b (code "(")) (c + one b (code ")"))
-    xs
+    let opened = o + isByte b (code "(") in
+    let closed = c + isByte b (code ")") in
+    ltb (closed + mostOpen) opened || deep opened closed xs
 
 abbrev pub verdictOf : Read → Judged
 verdictOf (Set v u next) = cond u (Refused 13) (Letters v)

@@ -69,7 +69,7 @@ module _ (names : List Name) (n : ℕ) (s : List ℕ) where
       cond (isAt s at (code "!")) negation (cond (isAt s at (code "(")) group (digitAt at))
 
 -- r is what is read at a place, with any fuel that is enough
-pub record Meant (names : List Name) (n : ℕ) (s : List ℕ) (k : Kind) (at : ℕ) (r : Read) : Type 0
+pub record ReadsAs (names : List Name) (n : ℕ) (s : List ℕ) (k : Kind) (at : ℕ) (r : Read) : Type 0
   where
     pub reading : (f : ℕ) → 3 * (length s - at) + rank k < f → r ≡ reads names n s f k at
 

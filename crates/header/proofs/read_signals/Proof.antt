@@ -1,9 +1,8 @@
 -- `header::read_signals` meets its contract. The invariant: the words up to the place `at` are
 -- names, and those of the first six are kept. The measure: how many bytes are left. Assumes
 -- nothing.
-use Rattle.header.proofs.SignalLaws.{ends-none, ends-many, ends-twice, ends-good}
-use Rattle.header.proofs.SignalLaws.{naming-starts, naming-stops, naming-next, answer-word}
-use Rattle.header.proofs.SignalLaws.{answer-name, Naming}
+use Rattle.header.proofs.SignalLaws.{ends-answer, naming-starts, naming-stops, naming-next}
+use Rattle.header.proofs.SignalLaws.{answer-word, answer-name, Naming}
 use Rattle.header.specs.inner.Gathering.{nameAdded}
 use Rattle.letters.proofs.Lists.{sameBytes-true, sameBytes-false}
 use Rattle.header.proofs.HeaderLaws.{name-short}
@@ -139,35 +138,10 @@ loop-again c =
 
 returns-4 : tie.Need-returns-4 Inv-loop μ-loop
 returns-4 c =
-    let a = c .before .before in
-    c .turned-down4 .ensures
-    ∙ sym (ends-none _ (first-is (a .before .before)) _ _ _ _ (a .before .loop .inv .1 .0)
-    (a .loop-test .left) (c .before .if4 .taken))
-
-returns-5 : tie.Need-returns-5 Inv-loop μ-loop
-returns-5 c =
-    let a = c .before .before .before in
-    c .turned-down5 .ensures
-    ∙ sym (ends-many _ (first-is (a .before .before)) _ _ _ _ (a .before .loop .inv .1 .0)
-    (a .loop-test .left) (c .before .if5 .taken))
-
-returns-6 : tie.Need-returns-6 Inv-loop μ-loop
-returns-6 c =
-    let five = c .before .before .before .before in
-    let a = five .before .before in
-    c .turned-down6 .ensures
-    ∙ sym (ends-twice _ (first-is (a .before .before)) _ _ _ _ (a .before .loop .inv .1 .0)
-    (a .loop-test .left) (five .before .if4 .left)
-    (five .if5 .left) (sym (c .before .before .distinct .ensures)
-    ∙ not-true _ (c .before .if6 .taken)))
-
-returns-7 : tie.Need-returns-7 Inv-loop μ-loop
-returns-7 c =
-    let five = c .before .before .before in
-    let a = five .before .before in
-    sym (ends-good _ (first-is (a .before .before)) _ _ _ _ (a .before .loop .inv .1 .0)
-    (a .loop-test .left) (five .before .if4 .left)
-    (five .if5 .left) (sym (c .before .distinct .ensures) ∙ not-false _ (c .if6 .left)))
+    let a = c .before in
+    c .judge-names .ensures
+    ∙ sym (ends-answer _ (first-is (a .before .before)) _ _ _ _ (a .before .loop .inv .1 .0)
+    (a .loop-test .left))
 
 pub read-signals-spec : {M : Type 1} → statement M
 read-signals-spec =
@@ -178,5 +152,4 @@ read-signals-spec =
     (λ c. search needs) (λ c. search needs) part-is-name-end (λ c κs. search needs)
     (λ c κs. search needs) returns-3 (λ c. search needs) (λ c. search needs) part-name-of-end
     (λ c κs. search needs) (λ c κs. search needs) (λ c. search needs) (λ c. search needs)
-    loop-again (λ c κs. search needs) returns-4 (λ c κs. search needs) returns-5
-    (λ c κs. search needs) (λ c κs. search needs) returns-6 (λ c. search needs) returns-7)
+    loop-again (λ c κs. search needs) returns-4)

@@ -1,5 +1,5 @@
--- `rows::read_field` meets its contract: the part of the rest that `find` bounds is its front, and
--- the field is read by its kind. Assumes nothing.
+-- `rows::read_field` meets its contract: the part of the rest up to `end` is its front, and the
+-- field is read by its kind. Assumes nothing.
 use borrow.Author.Needs.{needs}
 use mathlib.Core.Path.{_≡_, sym, ap, _∙_}
 use lib.ListN.{length, take}
@@ -11,13 +11,13 @@ use Rattle.text.specs.Lines.{comma}
 use Rattle.rows.proofs.read_field.Tie as tie
 
 -- The part up to the next comma.
-part : (c : tie.After-is-bound) → let rest = c .before .before .before .args .rest .now in
-    take (c .before .find .result) rest ≡ front comma rest
-part c = part-front comma _ (c .before .find .ensures)
+part : (c : tie.After-is-bound) → let a = c .before .before .args in
+    take (a .end) (a .rest .now) ≡ front comma (a .rest .now)
+part c = part-front comma _ (c .before .before .pre)
 
-part-length : (c : tie.After-is-bound) → let end = c .before .find .result in
-    end ≡ length (take end (c .before .before .before .args .rest .now))
-part-length c = c .before .find .ensures ∙ ap length (sym (part c))
+part-length : (c : tie.After-is-bound) → let a = c .before .before .args in
+    a .end ≡ length (take (a .end) (a .rest .now))
+part-length c = c .before .before .pre ∙ ap length (sym (part c))
 
 returns : tie.Need-returns
 unfolding fieldOf
@@ -35,6 +35,6 @@ returns-2 c =
 pub read-field-spec : {M : Type 1} → statement M
 read-field-spec =
     tie.close (tie.spec
-    (λ c κs. search needs) (λ c κs. search needs) (λ c. part-length (c .before .before))
+    (λ c κs. search needs) (λ c. part-length (c .before .before))
     (λ c κs. search needs) (λ c. part-length (c .before .before)) (λ c κs. search needs) returns
     returns-2)

@@ -9,7 +9,7 @@ use Rattle.letters.specs.Lists.{sameBytes}
 use Rattle.text.specs.Lines.{count, comma}
 use Rattle.rows.specs.Row.{ruleWord}
 use Rattle.rows.specs.inner.Row.{rowAnswer}
-use Rattle.rows.proofs.RowLaws.{rule-length, rule-commas, row-fault, row-good, values-held}
+use Rattle.rows.proofs.RowLaws.{rule-length, rule-commas, row-fault, row-passed, values-held}
 use Rattle.rows.proofs.RowLaws.{bounds-low}
 use Rattle.rows.proofs.read_row.Statement.{statement}
 use Rattle.rows.proofs.read_row.Tie as tie
@@ -60,7 +60,7 @@ returns-4 : tie.Need-returns-4
 unfolding rowAnswer
 returns-4 c =
     let read = c .before .before .before in
-    let good = row-good _ _ (read .read-values .ensures) (c .before .before .if3 .left) in
+    let good = row-passed _ _ (read .read-values .ensures) (c .before .before .if3 .left) in
     rw (rule (read .before .before .before), commas (read .before))
     (c .judge-row .ensures ∙ sym good)
 

@@ -29,24 +29,20 @@ here : (c : tie.In-loop Inv-loop μ-loop) → let a = c .before .before .before 
     (c .before .loop .k)
 here c = c .before .loop .inv .here (c .loop-test .taken)
 
-read : (c : tie.After-read-field Inv-loop μ-loop) → let q = c .before .before .before in
+found : (c : tie.After-find Inv-loop μ-loop) → let q = c .before .before .before in
+    c .find .result ≡ length (front comma (drop (q .loop .at) (q .before .before .args .line .now)))
+found c = rw rest-whole at (c .find .ensures)
+
+found-within : (c : tie.After-find Inv-loop μ-loop) → let q = c .before .before .before in
+    q .loop .at + c .find .result ≤ length (q .before .before .args .line .now)
+found-within c = rw (found c) (here-front _ _ _ _ _ (here (c .before .before)))
+
+read : (c : tie.After-read-field Inv-loop μ-loop) → let q = c .before .before .before .before in
     let a = q .before .before .args in
     fieldOf (take (a .signals) (a .names)) (width (a .signals)) (q .loop .k)
     (front comma (drop (q .loop .at) (a .line .now)))
     ≡ c .read-field .result
 read c = sym (rw rest-whole at (c .read-field .ensures))
-
-found : (c : tie.After-find Inv-loop μ-loop)
-    → let q = c .before .before .before .before .before .before .before in
-    c .find .result ≡ length (front comma (drop (q .loop .at) (q .before .before .args .line .now)))
-found c = rw rest-whole at (c .find .ensures)
-
-found-within : (c : tie.After-find Inv-loop μ-loop)
-    → let q = c .before .before .before .before .before .before .before in
-    q .loop .at + c .find .result ≤ length (q .before .before .args .line .now)
-found-within c =
-    rw (found c)
-    (here-front _ _ _ _ _ (here (c .before .before .before .before .before .before)))
 
 loop-holds : tie.Need-loop-holds Inv-loop μ-loop
 loop-holds c = gathered-none _ _ _ (c .before .pre .0) (c .before .pre .1)
@@ -62,21 +58,21 @@ returns c =
     let r = c .before .before .before in
     let told = c .before .enum-told .given .1 in
     rw (c .number-of .ensures, told)
-    (sym (gathered-fault _ _ _ _ _ (here (r .before .before)) _ (read r ∙ told) _
-    (r .before .before .before .loop .inv)))
+    (sym (gathered-fault _ _ _ _ _ (here (r .before .before .before)) _ (read r ∙ told) _
+    (r .before .before .before .before .loop .inv)))
 
 add-at : tie.Need-add-at Inv-loop μ-loop
-add-at c = omega (arith, found-within c)
+add-at c = omega (arith, found-within (c .before .before .before .before))
 
 add-at-2 : tie.Need-add-at-2 Inv-loop μ-loop
-add-at-2 c = omega (arith, found-within c)
+add-at-2 c = omega (arith, found-within (c .before .before .before .before))
 
 loop-again : tie.Need-loop-again Inv-loop μ-loop
 loop-again c =
-    let r = c .before .before .before .before in
-    let turn = r .before .before in
-    rw (found c)
-    (gathered-next _ _ _ _ _ (here turn) _ (read r ∙ c .before .before .field .given .1) _
+    let r = c .before .before .before in
+    let turn = r .before .before .before in
+    rw (found (r .before))
+    (gathered-next _ _ _ _ _ (here turn) _ (read r ∙ c .before .field .given .1) _
     (turn .loop-test .taken) (turn .before .loop .inv))
 
 returns-2 : tie.Need-returns-2 Inv-loop μ-loop
@@ -88,6 +84,6 @@ pub read-values-spec : {M : Type 1} → statement M
 read-values-spec =
     tie.close (tie.spec
     Inv-loop μ-loop loop-holds sub-rest part-rest-start (λ c. search needs)
-    (λ c κs. search needs) (λ c. search needs) (λ c. search needs) (λ c κs. search needs)
-    returns (λ c. search needs) (λ c. search needs) (λ c κs. search needs)
+    (λ c κs. search needs) (λ c κs. c .find .ensures) (λ c. search needs) (λ c. search needs)
+    (λ c κs. search needs) returns (λ c. search needs) (λ c. search needs)
     add-at add-at-2 (λ c. search needs) (λ c. search needs) loop-again returns-2)
