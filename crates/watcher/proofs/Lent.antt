@@ -1,11 +1,11 @@
--- What `tick_rows` and `tick` are passed, as their walks have it. Assumes nothing.
+-- What `tick_rows` and `tick` are passed, as the walks have it. Assumes nothing.
 use Prim.Native.Nat.{ℕ, _<_, _^_}
 use mathlib.Core.List.{List, [], _∷_}
 use lib.ListN.{length, getD}
 use mir.Syntax.{named, w8}
 use mir.Val.{Val, vint, vptr}
 use base.Fml.{Lft, GName, Share, Fml, flft}
-use denote.Ref.{RefT}
+use denote.Ref.{RefT, MutRef}
 use denote.Slice.{sliceVal, ShrSlice, Room}
 use denote.Index.{place}
 use denote.Struct.Laws as LL
@@ -131,3 +131,15 @@ module _ (y : LentState) where
 
   abbrev pub stateRef : Watch → RefT Watch
   stateRef watch = record { ptr = (y .block, y .offset); name = y .ghost; now = watch }
+
+  abbrev pub StateOwn : Watch → Fml
+  StateOwn watch = MutRef (named 1) (y .lifetime) (T.the-row) .own (stateRef watch) (statePtr ∷ [])
+
+module _ (x : Lent) (y : LentState) where
+  -- The arguments of `tick`, and their machine values.
+  abbrev pub tickArgs : ℕ × (RefT (List Row) × (RefT Watch × (ℕ × Unit {0})))
+  tickArgs = (x .signals, (rowsRef x, (stateRef y (x .watch), (x .letter, tt))))
+
+  abbrev pub tickVals : List Val × (List Val × (List Val × (List Val × Unit {0})))
+  tickVals =
+      (signalsVal x ∷ [], (rowsVal x ∷ [], (statePtr y ∷ [], (letterVal x ∷ [], tt))))

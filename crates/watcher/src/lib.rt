@@ -12,8 +12,14 @@ use table::Outcome;
 use table::Row;
 use table::Table;
 ghost use mathlib.Core.Path.{_≡_};
+ghost use Prim.Native.Nat.{_+_, min};
+ghost use lib.ListN.{take};
+ghost use Rattle.table.specs.Limits.{mostRows};
 ghost use Rattle.watcher.specs.Watch.{startWatch};
 ghost use Rattle.watcher.specs.Answer.{tickAnswer, tableTick, tablePlay};
+
+// The rows that a program can lend by `tick_lent`: one more than a table has, which is refused.
+pub const MOST_LENT: usize = MOST_ROWS + 1;
 
 // A row's place in the record.
 pub struct Slot {
@@ -70,6 +76,33 @@ pub fn tick(signals: u8, rows: &[Row], watch: &mut Watch, letter: u8) -> Outcome
     let ticked = tick_rows(signals, rows, *watch, letter);
     *watch = ticked.watch;
     ticked.outcome
+}
+
+// How many rows are lent where `count` are asked for.
+fn rows_lent(count: usize) -> usize
+    ensures { λ r. ⌜ r ≡ min count (mostRows + 1) ⌝ }
+{
+    if count < MOST_LENT { count } else { MOST_LENT }
+}
+
+// One tick with rows and state by value: the first rows are lent to `tick`, as many as `count` says
+// and all if it says more, and so is a copy of the state.
+pub fn tick_lent(
+    signals: u8,
+    rows: [Row; MOST_LENT],
+    count: usize,
+    watch: Watch,
+    letter: u8,
+) -> Ticked
+    ensures { λ r. ⌜ r ≡ tickAnswer signals (take count rows) watch letter ⌝ }
+{
+    let n = rows_lent(count);
+    let mut state = watch;
+    let outcome = tick(signals, &rows[..n], &mut state, letter);
+    Ticked {
+        outcome,
+        watch: state,
+    }
 }
 
 // One tick of a table value. Refused with 17, 18 or 19, in this order; the state is then the one

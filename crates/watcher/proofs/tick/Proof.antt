@@ -28,7 +28,7 @@ use denote.Laws.{Is, shows}
 use denote.Memory.{mem, cellAt}
 use denote.Plain.{uint-vals, uint-tells}
 use denote.Builtin.{u8}
-use denote.Ref.{RefT, MutRef, ptr-vals, mut-tells}
+use denote.Ref.{MutRef, ptr-vals, mut-tells}
 use denote.Slice.{ShrSlice, slice-vals, shr-slice-tells}
 use denote.Signature.{Slot, plain}
 use denote.Steps.{opens, closes, owned, facts, nothing, only}
@@ -37,7 +37,7 @@ use denote.Struct.Laws as LL
 use denote.Enum.Laws as EL
 use denote.Triple.Statement.{Contract, Triple}
 use denote.Triple.Call.{calls-at}
-use denote.Triple.Entry.{Args, Vals, onEntry}
+use denote.Triple.Entry.{onEntry}
 use denote.Triple.Spec.{Meets}
 use denote.Triple.Table.{entered, cited}
 use denote.Triple.Walked.{Stays, stay-ref, stay-dropped, walkOf, goes-ref, ends-at}
@@ -46,9 +46,9 @@ use Rattle.table.proofs.Outcome as O
 use Rattle.table.proofs.Outcome.Laws as O′
 use Rattle.watcher.specs.declared.Watch.{Watch}
 use Rattle.watcher.specs.declared.Ticked.{Ticked}
-use Rattle.watcher.proofs.Lent.{Lent, lentOf, Typed, signalsVal, letterVal, token, rowsRef}
+use Rattle.watcher.proofs.Lent.{Lent, lentOf, Typed, signalsVal, letterVal, token, tickArgs}
 use Rattle.watcher.proofs.Lent.{rowsVal, rowsArgs, rowsVals, RowsOwn, stateVal, answer}
-use Rattle.watcher.proofs.Lent.{LentState, lentState, stateToken, statePtr, stateRef}
+use Rattle.watcher.proofs.Lent.{LentState, lentState, stateToken, statePtr, tickVals}
 use Rattle.watcher.proofs.Walks.{Meant, fits, holds, holds-uint, spot, copied, part-copied}
 use Rattle.watcher.proofs.Walks.{given-back, allots, frees-all, has, frame, falling, paired}
 use Rattle.watcher.proofs.Walks.{says-both, shown}
@@ -96,18 +96,11 @@ module _ {M : Type 1} (𝓤 : URA M) (H : Heap 𝓤) (A : Atoms 𝓤) (at-mem : 
 
 module _ {M : Type 1} (𝓤 : URA M) (H : Heap 𝓤) (A : Atoms 𝓤) (W : Given 𝓤 H A)
     (at-mem : Memory → SProp 𝓤) (run : Routine → Fun 𝓤) (x : Lent) (y : LentState) where
-  -- The arguments, and their machine values.
-  abbrev state-ref : RefT Watch
-  state-ref = stateRef y (x .watch)
-
-  abbrev args : Args here.signature (x .lifetime, (y .lifetime, tt))
-  args = (x .signals, (rowsRef x, (state-ref, (x .letter, tt))))
-
-  abbrev vals : Vals here.signature (x .lifetime, (y .lifetime, tt))
-  vals = (signalsVal x ∷ [], (rowsVal x ∷ [], (statePtr y ∷ [], (letterVal x ∷ [], tt))))
-
   abbrev bound : walkOf 𝓤 H A here.ended stayed (here.clauses 𝓤 H A at-mem run) .Ghost
-  bound = (((x .lifetime, (y .lifetime, tt)), (x .share, (y .share, tt)), tt, args, vals), tt)
+  bound = (
+    ((x .lifetime, (y .lifetime, tt)), (x .share, (y .share, tt)), tt, tickArgs x y, tickVals x y),
+    tt,
+  )
 
   abbrev Post : Val → SProp 𝓤
   Post = walkOf 𝓤 H A here.ended stayed (here.clauses 𝓤 H A at-mem run) .post bound
@@ -150,13 +143,13 @@ module _ {M : Type 1} (𝓤 : URA M) (H : Heap 𝓤) (A : Atoms 𝓤) (W : Given
   -- The whole body.
   walk : (𝓣 : Tables 𝓤 H) → Triple 𝓤 (𝓣 .C #tick-rows) (Callee 𝓤 H A at-mem run) → Typed x
       → ent 𝓤 (onEntry 𝓤 H A here.signature (x .lifetime, (y .lifetime, tt))
-      (x .share, (y .share, tt)) args vals)
+      (x .share, (y .share, tt)) (tickArgs x y) (tickVals x y))
       (WpFn 𝓤 H (𝓣 .C) (𝓣 .Λ) code.function
       (signalsVal x ∷ rowsVal x ∷ statePtr y ∷ letterVal x ∷ []) Post)
   walk 𝓣 known typed =
       qed W ((‵ (token x) ⊛ ‵ (stateToken y) ⊛ ‵ ftrue)
       ∷ ‵ (owns (u8 ∷ ShrSlice (named 0) (x .lifetime) (R.the-row)
-      ∷ MutRef (named 1) (y .lifetime) (T.the-row) ∷ u8 ∷ []) args vals) ∷ []) ∵
+      ∷ MutRef (named 1) (y .lifetime) (T.the-row) ∷ u8 ∷ []) (tickArgs x y) (tickVals x y)) ∷ []) ∵
       enter ! (𝓣 .C) (𝓣 .Λ) code.function _ _ $ allots ! (code.function .locals) (λ a.
       params1 ! $ pass1 ! (init ! 10 refl (tt, record { fits = typed .signals })) $
       pass1 ! (init ! 8 refl (tt, (tt, (record { fits = typed .rows .0 }, tt)))) $
