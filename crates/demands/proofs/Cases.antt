@@ -10,11 +10,11 @@ use Rattle.verdict.specs.Found.{refusedFound, soundFound}
 use Rattle.search.specs.Lent.{Lent, roomOf, cleared}
 use Rattle.search.specs.inner.Computed.{searchAnswer}
 use Rattle.checker.specs.FileReport.{checkAnswer}
-use Rattle.demands.specs.Cases.{P as rowP, Q as rowQ, S as rowS, report, delayed, isRight}
-use Rattle.demands.specs.Cases.{starred, CaseMeans}
-use Rattle.demands.specs.Texts.{textP, textNotC, textQ, textS, textDelayed, fileOf, ReadAs}
-use Rattle.demands.specs.Texts.{wholeOutput}
-use Rattle.demands.specs.Cases.Case.{after}
+use Rattle.demands.specs.examples.Cases.{P as rowP, Q as rowQ, S as rowS, report, delayed, isRight}
+use Rattle.demands.specs.examples.Cases.{starred, CaseMeans}
+use Rattle.demands.specs.examples.Texts.{textP, textNotC, textQ, textS, textDelayed, fileOf, ReadAs}
+use Rattle.demands.specs.examples.Texts.{wholeOutput}
+use Rattle.demands.specs.examples.Cases.Case.{after}
 use Rattle.demands.specs.Searching.{Entered}
 use Rattle.demands.proofs.Starred as Starred
 use Rattle.demands.proofs.Instances as Instances

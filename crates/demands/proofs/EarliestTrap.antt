@@ -17,7 +17,8 @@ use Rattle.traces.proofs.Numbers.{strong-induction}
 use Rattle.traces.proofs.Order.{earlier-irrefl, earlier-trans, notAfter-antisym}
 use Rattle.traces.proofs.Doomed.{lost-doomed, lost-unique}
 use Rattle.search.specs.Lent.{Lent, systemOf}
-use Rattle.demands.specs.Searching.{LostOrZero, ScratchHeld, EarliestDoomed}
+use Rattle.demands.specs.Searching.{LostOrZero, ScratchHeld}
+use Rattle.demands.specs.further.Doomed.{EarliestDoomed}
 
 not-earlier : {w v : List ℕ} → NotAfter w v → Earlier v w → ⊥
 not-earlier {w} (inl e) h = earlier-irrefl w (rw (← e) at h)

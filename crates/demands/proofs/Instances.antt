@@ -29,8 +29,8 @@ use Rattle.reader.proofs.Fits.{file-fits}
 use Rattle.verdict.specs.Found.{refusedFound, soundFound}
 use Rattle.search.specs.Lent.{Lent, roomOf, systemOf, cleared}
 use Rattle.search.specs.inner.Computed.{searchAnswer}
-use Rattle.demands.specs.Cases.{P, report}
-use Rattle.demands.specs.Texts.{textP, textNotC, tableOf, ReadAs}
+use Rattle.demands.specs.examples.Cases.{P, report}
+use Rattle.demands.specs.examples.Texts.{textP, textNotC, tableOf, ReadAs}
 use Rattle.demands.specs.Searching.{Fit, Entered}
 use Rattle.demands.specs.inner.Answers.{withEntries}
 use Rattle.demands.specs.inner.Answers.ComputedAnswer.{is17, is20, is21, isSound}

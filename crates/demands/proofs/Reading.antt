@@ -21,7 +21,7 @@ use Rattle.conditions.proofs.Judging as Judging
 use Rattle.reader.specs.inner.File.{readAnswer}
 use Rattle.reader.specs.Grammar.{IsFile}
 use Rattle.reader.specs.Reading.{accepted}
-use Rattle.reader.specs.Witness.{Sized, Witnessed}
+use Rattle.reader.specs.further.Witness.{Sized, Witnessed}
 use Rattle.reader.specs.declared.Reading.{Reading}
 use Rattle.reader.proofs.Accepted as Accepting
 use Rattle.reader.proofs.Fits as Fits

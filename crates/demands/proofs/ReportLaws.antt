@@ -25,7 +25,8 @@ use Rattle.verdict.proofs.Buffer.{written-front, written-length}
 use Rattle.search.specs.Lent.{Lent, Searched, roomOf, systemOf}
 use Rattle.search.specs.inner.Computed.{searchAnswer}
 use Rattle.report.specs.Report.{heading, refusedLine, sizeLines, soundLine, trappedLine, tickLines}
-use Rattle.report.specs.Report.{lostWord, reportLines, TraceInBuffer}
+use Rattle.report.specs.Report.{lostWord, reportLines}
+use Rattle.report.specs.further.Trace.{TraceInBuffer}
 use Rattle.checker.specs.FileReport.{checkAnswer, programLent}
 use Rattle.demands.specs.Searching.{Fit}
 use Rattle.demands.specs.inner.Answers.{ComputedAnswer}

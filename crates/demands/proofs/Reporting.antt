@@ -17,7 +17,8 @@ use Rattle.verdict.specs.Found.{Verdict, valuesOf}
 use Rattle.search.specs.Lent.{Lent, roomOf, systemOf}
 use Rattle.search.specs.inner.Computed.{searchAnswer}
 use Rattle.report.specs.Report.{heading, refusedLine, sizeLines, soundLine, trappedLine, tickLines}
-use Rattle.report.specs.Report.{lostWord, reportBytes, TraceInBuffer}
+use Rattle.report.specs.Report.{lostWord, reportBytes}
+use Rattle.report.specs.further.Trace.{TraceInBuffer}
 use Rattle.report.proofs.Injective.{SameReported, bytes-injective}
 use Rattle.checker.specs.FileReport.{checkAnswer, programLent, mostReport}
 use Rattle.checker.proofs.ReportLength as ReportLength

@@ -14,7 +14,7 @@ use Rattle.traces.proofs.Count.{count-unique, fits-or-not}
 use Rattle.traces.proofs.Verdict.{trapped-unique, sound-not-doomed}
 use Rattle.verdict.specs.Found.{Verdict, Values, valuesOf}
 use Rattle.verdict.specs.Found.{refusedFound, soundFound, trappedFound}
-use Rattle.search.specs.Bound.{mostStates}
+use Rattle.search.specs.further.Bound.{mostStates}
 use Rattle.search.specs.Lent.{Lent, Searched, roomOf, systemOf, traced}
 use Rattle.search.specs.inner.Computed.{searchAnswer}
 use Rattle.search.proofs.Bound.{count-bounded}

@@ -17,9 +17,10 @@ use Rattle.successors.specs.State.{packed, unpacked}
 use Rattle.verdict.specs.Found.{Verdict, refusedFound, soundFound, trappedFound}
 use Rattle.search.specs.Lent.{Lent, roomOf, systemOf, cleared, traced}
 use Rattle.search.specs.inner.Computed.{searchAnswer}
-use Rattle.search.specs.Bound.{mostStates}
+use Rattle.search.specs.further.Bound.{mostStates}
 use Rattle.demands.specs.Searching.{Dead, EarliestDead, CanGoOn, Fit, SameLengths}
-use Rattle.demands.specs.Searching.{SameScratch, ScratchHeld, EarliestDoomed, searchValues}
+use Rattle.demands.specs.Searching.{SameScratch, ScratchHeld, searchValues}
+use Rattle.demands.specs.further.Doomed.{EarliestDoomed}
 use Rattle.demands.specs.inner.Answers.{withEntries}
 use Rattle.demands.specs.inner.Answers.ComputedAnswer.{is17, is20}
 use Rattle.demands.proofs.Answers.{answer-is}

@@ -31,9 +31,9 @@ use Rattle.verdict.specs.Found.{trappedFound}
 use Rattle.search.specs.Lent.{Lent, roomOf, systemOf, traced}
 use Rattle.search.specs.inner.Computed.{judged, searchAnswer}
 use Rattle.scratch.proofs.Same.{phases-tell}
-use Rattle.demands.specs.Cases.{P, Case, CaseMeans, trappedWith, isRight, starred, report}
-use Rattle.demands.specs.Cases.{delayed}
-use Rattle.demands.specs.Cases.Case.{after, traps}
+use Rattle.demands.specs.examples.Cases.{P, Case, CaseMeans, trappedWith, isRight, starred, report}
+use Rattle.demands.specs.examples.Cases.{delayed}
+use Rattle.demands.specs.examples.Cases.Case.{after, traps}
 use Rattle.demands.specs.inner.Answers.{withEntries}
 use Rattle.demands.specs.Searching.{Fit}
 use Rattle.demands.proofs.Answers.{right-judged}

@@ -24,9 +24,9 @@ use Rattle.verdict.proofs.Buffer.{written-front}
 use Rattle.search.specs.Lent.{Lent, roomOf}
 use Rattle.report.specs.Report.{signalValues, tickLines, reportLines}
 use Rattle.checker.specs.FileReport.{checkAnswer}
-use Rattle.demands.specs.Cases.{P, Q, S, report, delayed}
-use Rattle.demands.specs.Texts.{textP, textNotC, textQ, textS, textDelayed, fileOf}
-use Rattle.demands.specs.Texts.{tableOf, ReadAs, wholeOutput}
+use Rattle.demands.specs.examples.Cases.{P, Q, S, report, delayed}
+use Rattle.demands.specs.examples.Texts.{textP, textNotC, textQ, textS, textDelayed, fileOf}
+use Rattle.demands.specs.examples.Texts.{tableOf, ReadAs, wholeOutput}
 use Rattle.demands.proofs.Starred.{report-trapped}
 
 pub boards-read : ReadAs (textP ∷ []) (P ∷ []) × ReadAs (textQ ∷ []) (Q ∷ [])

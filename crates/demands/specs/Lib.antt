@@ -1,6 +1,6 @@
 pub mod Watching
 pub mod Searching
 pub mod Reporting
-pub mod Cases
-pub mod Texts
+pub mod examples
+pub mod further
 pub mod inner

@@ -107,15 +107,6 @@ pub record ScratchHeld (table : Table) (n : ℕ) (lent : Lent) : Type 0 where
   pub letters-end : ZeroFrom 0 n (lent .letters)
   pub lost-end : ZeroFrom 0 n (lent .lost)
 
--- "The earliest doomed entry's trace" w, with its lost number k.
-pub record EarliestDoomed (n : ℕ) (trace : ℕ → List ℕ) (lost : List ℕ) (w : List ℕ) (k : ℕ)
-    : Type 0 where
-  pub entry : ℕ
-  pub low : entry < n
-  pub leads : trace entry ≡ w
-  pub number : getD lost entry 0 ≡ k
-  pub first : (e : ℕ) → e < entry → getD lost e 0 ≡ 0
-
 -- Lent memory under a verdict, and under 21 ("21 leaves it as under a verdict"): the lists as long
 -- as they were, the scratch with n entries, and the trace buffer as it was.
 pub record Entered (table : Table) (n : ℕ) (lent held : Lent) : Type 0 where

@@ -23,7 +23,7 @@ use Rattle.rows.specs.Row.{AreFields, none as nothing, and as also, IsRow}
 use Rattle.rows.proofs.Fields.{fields-free}
 use Rattle.conditions.specs.Judge.{IsCondition}
 use Rattle.reader.specs.Grammar.{Each, none, and}
-use Rattle.reader.specs.Witness.{SameBounds}
+use Rattle.reader.specs.further.Witness.{SameBounds}
 
 -- Pieces of few bytes, joined.
 pub joined-length : (b k : ℕ) (pieces : List (List ℕ)) → All (λ piece. length piece ≤ k) pieces

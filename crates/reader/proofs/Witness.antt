@@ -30,7 +30,7 @@ use Rattle.rows.proofs.Rules.{row-free}
 use Rattle.header.proofs.Shapes.{signals-free}
 use Rattle.reader.specs.Reading.{tableFrom}
 use Rattle.reader.specs.Grammar.{none, and, AreLines, AreRows}
-use Rattle.reader.specs.Witness.{Sized, Witnessed}
+use Rattle.reader.specs.further.Witness.{Sized, Witnessed}
 use Rattle.reader.proofs.PlainNames.{wordOf, Eight, words-right, words-names, names-unused}
 use Rattle.reader.proofs.PlainRows.{joined-length, bare, lineOf, lines-rows, lines-length}
 use Rattle.reader.proofs.PlainRows.{bare-bounds}

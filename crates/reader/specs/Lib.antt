@@ -3,5 +3,5 @@
 pub mod Reading
 pub mod Grammar
 pub mod Right
-pub mod Witness
+pub mod further
 pub mod inner

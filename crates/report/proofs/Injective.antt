@@ -31,7 +31,8 @@ use Rattle.verdict.specs.Found.{Verdict, valuesOf}
 use Rattle.report.specs.Report.{refusedWord, lineWord, rulesWord, countWord, soundLine}
 use Rattle.report.specs.Report.{tickWord, lostWord, refusedLine, sizeLines, signalValues}
 use Rattle.report.specs.Report.{trappedLine, tickLine, tickLines, trapLines}
-use Rattle.report.specs.Report.{reportLines, reportBytes, TraceInBuffer}
+use Rattle.report.specs.Report.{reportLines, reportBytes}
+use Rattle.report.specs.further.Trace.{TraceInBuffer}
 
 -- No line has an LF in it.
 numbered-free : (word : List ℕ) (n : ℕ) → count LF word ≡ 0 → count LF (word ++ decimal n) ≡ 0

@@ -1,3 +1,4 @@
 -- The report.
 pub mod Report
+pub mod further
 pub mod inner

@@ -84,8 +84,3 @@ reportLines rows signals buffer (Trapped summary trap) =
 -- "Lines end with LF."
 abbrev pub reportBytes : ℕ → ℕ → List ℕ → Found → List ℕ
 reportBytes rows signals buffer found = ended (reportLines rows signals buffer found)
-
--- The trace of what is found is all in the buffer, with letters of the table.
-pub record TraceInBuffer (signals : ℕ) (buffer : List ℕ) (found : Found) : Type 0 where
-  pub whole : valuesOf found .length ≤ length buffer
-  pub letters : every (letterFits signals) (take (valuesOf found .length) buffer) ≡ true

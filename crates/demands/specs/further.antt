@@ -1,0 +1,2 @@
+-- What only the further promises speak of, those that stand by subject beside `Demands`.
+pub mod Doomed
