@@ -1,6 +1,6 @@
 // The first boards of document 01 that are about single rows, run through the watcher: rows P, Q
 // and S with the signals `a c`, each with the letters read and the code that its phase then has.
-// Behind them, one small input for each number that a watcher call can give.
+// After them, one small input for each number that a watcher call can give.
 use libc::STDOUT_FILENO;
 use step::Phase;
 use table::Name;

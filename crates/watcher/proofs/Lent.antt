@@ -113,8 +113,8 @@ pub record LentState : Type 0 where
   pub offset : ℕ
   pub ghost : GName
 
-abbrev pub lentState : Lft → Share → RefT Watch → LentState
-lentState κ q r = record {
+abbrev pub lentStateOf : Lft → Share → RefT Watch → LentState
+lentStateOf κ q r = record {
   lifetime = κ;
   share = q;
   block = r .ptr .0;

@@ -88,55 +88,55 @@ rules-down (row ∷ rows) i pass h = rules-down rows (i + 1) (rowTaken pass i ro
 abbrev phasesIn : List Slot → List Phase
 phasesIn slots = map (λ (slot : Slot). slot .phase) slots
 
--- What a pass has found after some rows, whose slots stand at the front of `ahead`, behind those of
--- `behind`.
-record Found (rows : List Row) (pass : Pass) (behind ahead : List Slot) (done : Pass) : Type 0 where
+-- What a pass has found after some rows, whose slots stand at the front of `ahead`, after those of
+-- `passed`.
+record Found (rows : List Row) (pass : Pass) (passed ahead : List Slot) (done : Pass) : Type 0 where
   signals : done .signals ≡ pass .signals
   letter : done .letter ≡ pass .letter
   rules : done .rules ≡ (pass .rules && every (rowFits (pass .signals)) rows)
   phases : done .phases ≡ (pass .phases && phasesFit rows (take (length rows) (phasesIn ahead)))
-  slots : done .watch .slots ≡ behind ++ map slotOf (tick rows (pass .letter) (phasesIn ahead))
+  slots : done .watch .slots ≡ passed ++ map slotOf (tick rows (pass .letter) (phasesIn ahead))
 
 -- The state after row i is moved on, and the phase that it had.
-taken-slots : (pass : Pass) (row : Row) (behind ahead : List Slot) (slot : Slot) (i : ℕ)
-    → pass .watch .slots ≡ behind ++ slot ∷ ahead → length behind ≡ i
+taken-slots : (pass : Pass) (row : Row) (passed ahead : List Slot) (slot : Slot) (i : ℕ)
+    → pass .watch .slots ≡ passed ++ slot ∷ ahead → length passed ≡ i
     → taken pass i row .watch .slots
-    ≡ (behind ++ (slotOf (stepRow row (pass .letter) (slot .phase)) ∷ [])) ++ ahead
+    ≡ (passed ++ (slotOf (stepRow row (pass .letter) (slot .phase)) ∷ [])) ++ ahead
 unfolding taken
-taken-slots pass row behind ahead slot i e n =
+taken-slots pass row passed ahead slot i e n =
     let next : Phase → Slot = λ p. slotOf (stepRow row (pass .letter) p) in
     ap (λ (l : List Slot). set l i (next (getD l i (slotOf Waiting) .phase))) e
-    ∙ ap (λ (s : Slot). set (behind ++ slot ∷ ahead) i (next (s .phase)))
-    (getD-at behind slot ahead (slotOf Waiting) i n)
-    ∙ set-at behind slot ahead (next (slot .phase)) i n
-    ∙ sym (append-snoc behind (next (slot .phase)) ahead)
+    ∙ ap (λ (s : Slot). set (passed ++ slot ∷ ahead) i (next (s .phase)))
+    (getD-at passed slot ahead (slotOf Waiting) i n)
+    ∙ set-at passed slot ahead (next (slot .phase)) i n
+    ∙ sym (append-snoc passed (next (slot .phase)) ahead)
 
-taken-phase : (pass : Pass) (behind ahead : List Slot) (slot : Slot) (i : ℕ)
-    → pass .watch .slots ≡ behind ++ slot ∷ ahead → length behind ≡ i
+taken-phase : (pass : Pass) (passed ahead : List Slot) (slot : Slot) (i : ℕ)
+    → pass .watch .slots ≡ passed ++ slot ∷ ahead → length passed ≡ i
     → phaseAt (pass .watch) i ≡ slot .phase
-taken-phase pass behind ahead slot i e n =
+taken-phase pass passed ahead slot i e n =
     ap (λ (l : List Slot). getD l i (slotOf Waiting) .phase) e
-    ∙ ap (λ (s : Slot). s .phase) (getD-at behind slot ahead (slotOf Waiting) i n)
+    ∙ ap (λ (s : Slot). s .phase) (getD-at passed slot ahead (slotOf Waiting) i n)
 
-pass-finds : (rows : List Row) (i : ℕ) (pass : Pass) (behind ahead : List Slot)
-    → pass .watch .slots ≡ behind ++ ahead → length behind ≡ i → i + length ahead ≡ mostRows
+pass-finds : (rows : List Row) (i : ℕ) (pass : Pass) (passed ahead : List Slot)
+    → pass .watch .slots ≡ passed ++ ahead → length passed ≡ i → i + length ahead ≡ mostRows
     → length rows ≤ length ahead
-    → Found rows pass behind ahead (passOver rows i pass)
+    → Found rows pass passed ahead (passOver rows i pass)
 unfolding passOver tick every phasesFit taken
-pass-finds [] i pass behind ahead e n m h = record {
+pass-finds [] i pass passed ahead e n m h = record {
   signals = refl;
   letter = refl;
   rules = sym (and-true (pass .rules));
   phases = sym (and-true (pass .phases));
-  slots = e ∙ ap (λ (l : List Slot). behind ++ l) (sym (slots-phases ahead));
+  slots = e ∙ ap (λ (l : List Slot). passed ++ l) (sym (slots-phases ahead));
 }
-pass-finds (row ∷ rows) i pass behind [] e n m h = absurd (omega arith)
-pass-finds (row ∷ rows) i pass behind (slot ∷ ahead) e n m h =
+pass-finds (row ∷ rows) i pass passed [] e n m h = absurd (omega arith)
+pass-finds (row ∷ rows) i pass passed (slot ∷ ahead) e n m h =
     let next = taken pass i row in
-    let into = behind ++ (slotOf (stepRow row (pass .letter) (slot .phase)) ∷ []) in
+    let into = passed ++ (slotOf (stepRow row (pass .letter) (slot .phase)) ∷ []) in
     let rest = pass-finds rows (i + 1) next into ahead
-    (taken-slots pass row behind ahead slot i e n)
-    (length-append behind (slotOf (stepRow row (pass .letter) (slot .phase)) ∷ []) ∙ omega arith)
+    (taken-slots pass row passed ahead slot i e n)
+    (length-append passed (slotOf (stepRow row (pass .letter) (slot .phase)) ∷ []) ∙ omega arith)
     (omega arith) (omega arith) in
     rw (taken-low pass i row (omega arith)) (record {
       signals = rest .signals;
@@ -148,8 +148,8 @@ pass-finds (row ∷ rows) i pass behind (slot ∷ ahead) e n m h =
           (phasesFit rows (take (length rows) (phasesIn ahead)))
           ∙ ap (λ (p : Phase). pass .phases &&
           (phaseFits row p && phasesFit rows (take (length rows) (phasesIn ahead))))
-          (taken-phase pass behind ahead slot i e n);
-      slots = rest .slots ∙ append-snoc behind (slotOf (stepRow row (pass .letter) (slot .phase)))
+          (taken-phase pass passed ahead slot i e n);
+      slots = rest .slots ∙ append-snoc passed (slotOf (stepRow row (pass .letter) (slot .phase)))
           (map slotOf (tick rows (pass .letter) (phasesIn ahead)));
     })
 

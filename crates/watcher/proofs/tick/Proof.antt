@@ -48,7 +48,7 @@ use Rattle.watcher.specs.declared.Watch.{Watch}
 use Rattle.watcher.specs.declared.Ticked.{Ticked}
 use Rattle.watcher.proofs.Lent.{Lent, lentOf, Typed, signalsVal, letterVal, token, tickArgs}
 use Rattle.watcher.proofs.Lent.{rowsVal, rowsArgs, rowsVals, RowsOwn, stateVal, answer}
-use Rattle.watcher.proofs.Lent.{LentState, lentState, stateToken, statePtr, tickVals}
+use Rattle.watcher.proofs.Lent.{LentState, lentStateOf, stateToken, statePtr, tickVals}
 use Rattle.watcher.proofs.Walks.{Meant, fits, holds, holds-uint, spot, copied, part-copied}
 use Rattle.watcher.proofs.Walks.{given-back, allots, frees-all, has, frame, falling, paired}
 use Rattle.watcher.proofs.Walks.{says-both, shown}
@@ -231,7 +231,7 @@ module _ {M : Type 1} (𝓤 : URA M) (H : Heap 𝓤) (A : Atoms 𝓤) (W : Given
       ))
       (λ κs qs bounds a g are. via 𝓤 _ (fst∗ 𝓤 _ (emp 𝓤)) (walk 𝓤 H A W at-mem run
       (lentOf (κs .0) (qs .0) (a .0) (a .1 .0) (a .1 .1 .0 .now) (a .1 .1 .1 .0))
-      (lentState (κs .1 .0) (qs .1 .0) (a .1 .1 .0)) 𝓣 known (record {
+      (lentStateOf (κs .1 .0) (qs .1 .0) (a .1 .1 .0)) 𝓣 known (record {
         signals = are .0 .1;
         rows = are .1 .0 .0 .1;
         letter = are .1 .1 .1 .0 .1;

@@ -21,11 +21,11 @@ returns c = c .refused .ensures ∙ table-refused _ _ _
 
 returns-2 : tie.Need-returns-2
 returns-2 c =
-    let start = c .before .before .before .before .before .before .before in
+    let else = c .before .before .before .before .before in
+    let start = else .before .before in
     c .finish .ensures ∙ rw (c .before .over .ensures, c .before .before .begin .ensures)
     (table-answer _ _ _ (rows-all start) (slots-all start)
-    (sym (c .before .before .before .before .before .before .valid .ensures)
-    ∙ not-false _ (c .before .before .before .before .before .if1 .left)))
+    (sym (else .before .valid .ensures) ∙ not-false _ (else .if1 .left)))
 
 pub tick-table-spec : {M : Type 1} → statement M
 tick-table-spec =

@@ -14,14 +14,14 @@ returns c = rw (le-ltb _ mostRows (c .if1 .taken))
 returns-2 : tie.Need-returns-2
 unfolding rowTaken
 returns-2 c =
-    let low = lt-ltb _ mostRows (c .before .before .before .before .before .before .before .if1
-    .left) in
+    let judged = c .before .before .before in
+    let moved = judged .before in
+    let else = moved .before .before .before in
     rw (
-      low,
+      lt-ltb _ mostRows (else .if1 .left),
       c .before .phase-fits .ensures,
-      c .before .before .before .row-fits .ensures,
-      c .before
-          .before .before .before .step-row .ensures,
+      judged .row-fits .ensures,
+      moved .step-row .ensures,
     )
 
 pub take-row-spec : {M : Type 1} → statement M
