@@ -7,7 +7,8 @@ use Rattle.table.specs.declared.Refusal.{Refusal}
 use Rattle.reader.specs.declared.Reading.{Reading}
 use Rattle.reader.specs.inner.File.{readAnswer}
 use Rattle.search.specs.Lent.{Lent}
-use Rattle.checker.specs.FileReport.{afterReading, checkAnswer, Call}
+use Rattle.checker.specs.FileReport.{Call}
+use Rattle.checker.specs.inner.Computed.{afterReading, checkAnswer}
 
 module _ (bytes : List ℕ) (lent : Lent) {reading : Reading} (read : reading ≡ readAnswer bytes)
   where

@@ -8,16 +8,16 @@ use lib.Dec.{leb}
 use lib.ListN.{length, length-replicate}
 use borrow.Author.Tests.{leb-true}
 use Rattle.table.specs.Limits.{mostRows}
-use Rattle.table.specs.Valid.{tableFits}
+use Rattle.table.specs.Valid.{tableValid}
 use Rattle.table.specs.declared.Outcome.the-variants.{Accepted}
 use Rattle.table.specs.declared.Table.{Table}
-use Rattle.table.proofs.Laws.{tableFits-count, tableFits-signals}
+use Rattle.table.proofs.Laws.{tableValid-count, tableValid-signals}
 use Rattle.traces.specs.inner.Answer.{Answer}
 use Rattle.traces.specs.inner.Answer.Answer.{tooMany, sound, trapped}
 use Rattle.traces.proofs.Answer.{Within, answer-within}
 use Rattle.reader.specs.inner.File.{readAnswer}
-use Rattle.reader.proofs.Accepted.{FileAnswer, taken, turned, file-answer}
-use Rattle.reader.proofs.Fits.{file-fits}
+use Rattle.reader.proofs.Accepted.{Decided, taken, turned, read-decided}
+use Rattle.reader.proofs.Valid.{file-valid}
 use Rattle.scratch.specs.Room.{mostRoom}
 use Rattle.scratch.specs.inner.Same.{samePhases}
 use Rattle.verdict.specs.declared.Found.the-variants.{Refused as FoundRefused}
@@ -26,7 +26,8 @@ use Rattle.search.specs.Lent.{Lent, Searched, roomOf, systemOf, traced}
 use Rattle.search.specs.inner.Computed.{judged, searchAnswer}
 use Rattle.search.proofs.Room.{room-most}
 use Rattle.report.proofs.Lengths.{FewDigits, report-short}
-use Rattle.checker.specs.FileReport.{afterReading, checkAnswer, programLent, mostReport}
+use Rattle.checker.specs.FileReport.{programLent, mostReport}
+use Rattle.checker.specs.inner.Computed.{afterReading, checkAnswer}
 
 refused-few : (rows number line : ℕ) → rows ≤ mostRows → number < 1000 → line < 1000
     → FewDigits rows mostRoom (valuesOf (FoundRefused (record { number = number; line = line })))
@@ -74,28 +75,28 @@ judged-few rows r room h (trapped n t k) w lent full short =
     go false e = refused-few rows 21 0 r (omega arith) (omega arith)
 
 module _ (table : Table) (lent : Lent) (short : length (lent .trace) ≤ mostRoom) where
-  searched-few : tableFits table ≡ true
+  searched-few : tableValid table ≡ true
       → FewDigits (table .count) mostRoom (valuesOf (searchAnswer table lent .found))
   unfolding searchAnswer
   searched-few fits =
-      rw fits (judged-few (table .count) (tableFits-count table fits .1) (roomOf lent)
+      rw fits (judged-few (table .count) (tableValid-count table fits .1) (roomOf lent)
       (room-most lent) _ (answer-within (systemOf table) (roomOf lent) samePhases) lent _ short)
 
-  accepted-short : tableFits table ≡ true
+  accepted-short : tableValid table ≡ true
       → length (afterReading Accepted table lent .report) ≤ mostReport
   accepted-short fits =
       let searched = searchAnswer table lent in
       let few = report-short (table .count) (table .signals) mostRoom (searched .lent .trace)
-      (tableFits-signals table fits .1) (omega arith) (searched .found) (searched-few fits) in
+      (tableValid-signals table fits .1) (omega arith) (searched .found) (searched-few fits) in
       omega (arith, few)
 
 checked-short : (bytes : List ℕ) (lent : Lent) → length (lent .trace) ≤ mostRoom
     → length (checkAnswer bytes lent .report) ≤ mostReport
 unfolding checkAnswer
-checked-short bytes lent short = go (file-answer bytes)
+checked-short bytes lent short = go (read-decided bytes)
   where
-    go : FileAnswer bytes (readAnswer bytes) → length (checkAnswer bytes lent .report) ≤ mostReport
-    go (taken table file e) = rw e (accepted-short table lent short (file-fits bytes table file))
+    go : Decided bytes (readAnswer bytes) → length (checkAnswer bytes lent .report) ≤ mostReport
+    go (taken table file e) = rw e (accepted-short table lent short (file-valid bytes table file))
     go (turned number line one small low e) =
         let found = FoundRefused (record { number = number; line = line }) in
         let few = report-short 0 0 mostRoom (lent .trace) (omega arith) (omega arith) found

@@ -6,7 +6,9 @@ ghost use mathlib.Core.Path.{_≡_};
 ghost use lib.ListN.{length};
 ghost use Rattle.verdict.specs.Buffer.{written};
 ghost use Rattle.search.specs.Lent.{lentLists};
-ghost use Rattle.checker.specs.FileReport.{checkAnswer, checkCall, programLent};
+ghost use Rattle.checker.specs.FileReport.{programLent};
+ghost use Rattle.checker.specs.inner.Computed.{checkCall};
+ghost use Rattle.checker.specs.inner.Computed.{checkAnswer};
 
 // "The program lends room 4,096 and a trace buffer of as many bytes."
 const ROOM: usize = 4096;

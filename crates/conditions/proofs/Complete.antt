@@ -14,7 +14,7 @@ use Rattle.letters.specs.Letter.{setOf}
 use Rattle.letters.specs.Lists.{every}
 use Rattle.letters.proofs.Lists.{and-left}
 use Rattle.letters.proofs.Sets.{setOf-or, setOf-and, setOf-others, setOf-false}
-use Rattle.table.specs.Name.{isLetter, letterRun}
+use Rattle.table.specs.Name.{isLowercase, nameRun}
 use Rattle.table.specs.declared.Name.{Name}
 use Rattle.conditions.specs.Condition.{IsName, Kind, choice, term, factor, Condition, text}
 use Rattle.conditions.specs.Condition.{nameOf, place, holdsAt, unknown}
@@ -24,13 +24,13 @@ use Rattle.conditions.specs.inner.Reading.{isAt, signal, nameAt, digitAt
 use Rattle.conditions.specs.declared.Read.{Read}
 use Rattle.conditions.specs.declared.Read.the-variants.{Set}
 use Rattle.conditions.proofs.Bytes.{begins, isAt-drop, drop-past, drop-next}
-use Rattle.conditions.proofs.Names.{letterRun-append}
+use Rattle.conditions.proofs.Names.{nameRun-append}
 
 -- The byte b lengthens what was read of a kind.
 abbrev goesOn : Kind → ℕ → Bool
-goesOn choice b = isLetter b || eqb b (code "&") || eqb b (code "|")
-goesOn term b = isLetter b || eqb b (code "&")
-goesOn factor b = isLetter b
+goesOn choice b = isLowercase b || eqb b (code "&") || eqb b (code "|")
+goesOn term b = isLowercase b || eqb b (code "&")
+goesOn factor b = isLowercase b
 
 -- What is left does not.
 abbrev pub stops : Kind → List ℕ → Bool
@@ -48,33 +48,33 @@ or-right true b e = absurd (false≢true e)
 
 stops-term : (rest : List ℕ) → stops choice rest ≡ true → stops term rest ≡ true
 stops-term [] e = refl
-stops-term (b ∷ rest) e = or-left (isLetter b || eqb b (code "&")) (eqb b (code "|")) e
+stops-term (b ∷ rest) e = or-left (isLowercase b || eqb b (code "&")) (eqb b (code "|")) e
 
 stops-factor : (rest : List ℕ) → stops term rest ≡ true → stops factor rest ≡ true
 stops-factor [] e = refl
-stops-factor (b ∷ rest) e = or-left (isLetter b) (eqb b (code "&")) e
+stops-factor (b ∷ rest) e = or-left (isLowercase b) (eqb b (code "&")) e
 
 no-bar : (rest : List ℕ) → stops choice rest ≡ true → begins rest (code "|") ≡ false
 no-bar [] e = refl
-no-bar (b ∷ rest) e = or-right (isLetter b || eqb b (code "&")) (eqb b (code "|")) e
+no-bar (b ∷ rest) e = or-right (isLowercase b || eqb b (code "&")) (eqb b (code "|")) e
 
 no-amp : (rest : List ℕ) → stops term rest ≡ true → begins rest (code "&") ≡ false
 no-amp [] e = refl
-no-amp (b ∷ rest) e = or-right (isLetter b) (eqb b (code "&")) e
+no-amp (b ∷ rest) e = or-right (isLowercase b) (eqb b (code "&")) e
 
-no-letter : (rest : List ℕ) → stops factor rest ≡ true → letterRun rest ≡ 0
-unfolding letterRun
+no-letter : (rest : List ℕ) → stops factor rest ≡ true → nameRun rest ≡ 0
+unfolding nameRun
 no-letter [] e = refl
-no-letter (b ∷ rest) e = rw (not-true (isLetter b) e)
+no-letter (b ∷ rest) e = rw (not-true (isLowercase b) e)
 
 -- No sign stands where a name begins.
-no-sign : (w rest : List ℕ) (b : ℕ) → IsName w → isLetter b ≡ false
+no-sign : (w rest : List ℕ) (b : ℕ) → IsName w → isLowercase b ≡ false
     → begins (w ++ rest) b ≡ false
 unfolding every
 no-sign [] rest b p g = absurd (let h = p .some in omega arith)
 no-sign (x ∷ w) rest b p g =
-    let letter = and-left (isLetter x) (every isLetter w) (p .letters) in
-    ne-eqb x b (λ e. true≢false (sym letter ∙ ap isLetter e ∙ g))
+    let letter = and-left (isLowercase x) (every isLowercase w) (p .letters) in
+    ne-eqb x b (λ e. true≢false (sym letter ∙ ap isLowercase e ∙ g))
 
 module _ (names : List Name) (n : ℕ) (s : List ℕ) where
   abbrev Whole : {k : Kind} → Condition k → ℕ → Read → Type 0
@@ -127,10 +127,12 @@ module _ (names : List Name) (n : ℕ) (s : List ℕ) where
       rw (ih₁, isAt-drop, left, ih₂)
       (set-path (setOf-and n (holdsAt names t) (holdsAt names c)) (omega arith))
   complete (negated t) (suc f) at rest h e q =
-      let ih = complete t f (at + 1) rest (omega arith) (drop-next s (text t ++ rest) (code "!") at e) q in
-      rw (isAt-drop s at (code "!"), e, ih) (set-path (setOf-others n (holdsAt names t)) (omega arith))
+      let second = drop-next s (text t ++ rest) (code "!") at e in
+      let ih = complete t f (at + 1) rest (omega arith) second q in
+      rw (isAt-drop s at (code "!"), e, ih)
+      (set-path (setOf-others n (holdsAt names t)) (omega arith))
   complete (named w p) (suc f) at rest h e q =
-      let other : (b : ℕ) → isLetter b ≡ false → isAt s at b ≡ false =
+      let other : (b : ℕ) → isLowercase b ≡ false → isAt s at b ≡ false =
       λ b i. isAt-drop s at b ∙ rw e (no-sign w rest b p i) in
       rw (
         other (code "!") refl,
@@ -138,7 +140,7 @@ module _ (names : List Name) (n : ℕ) (s : List ℕ) where
         other (code "0") refl,
         other (code "1") refl,
         e,
-        letterRun-append w rest (p .letters) (no-letter rest q),
+        nameRun-append w rest (p .letters) (no-letter rest q),
       )
       (name-read w rest at p e)
   complete never (suc f) at rest h e q = simp (isAt-drop, e) (set-path (sym (setOf-false n)) refl)

@@ -23,7 +23,7 @@ use Rattle.conditions.specs.declared.Read.the-variants.{Set, Nothing}
 use Rattle.conditions.specs.declared.Judged.the-variants.{Letters, Refused}
 use Rattle.conditions.proofs.Complete.{complete}
 use Rattle.conditions.proofs.Depth.{deep-false, shallow-false}
-use Rattle.conditions.proofs.Sound.{Sound, sound}
+use Rattle.conditions.proofs.Sound.{Sound, reads-sound}
 
 module _ (names : List Name) (n : ℕ) (s : List ℕ) where
   -- What a condition writes is read, with its meaning.
@@ -44,7 +44,7 @@ module _ (names : List Name) (n : ℕ) (s : List ℕ) where
   pub read-means : (v : ℕ) (u : Bool) (next : ℕ) → conditionOf names n s ≡ Set v u next
       → ConditionMeans names n s v u
   unfolding conditionOf
-  read-means v u next e = go (reads names n s f choice 0) (sound names n s f 0 choice) e
+  read-means v u next e = go (reads names n s f choice 0) (reads-sound names n s f 0 choice) e
     where
       f : ℕ
       f = 3 * length s + 3
@@ -76,7 +76,8 @@ module _ (names : List Name) (n : ℕ) (s : List ℕ) where
       omega arith
 
   -- The letters and the flag that bytes mean are the only ones.
-  pub means-unique : {v w : ℕ} {u t : Bool} → ConditionMeans names n s v u → ConditionMeans names n s w t
+  pub means-unique : {v w : ℕ} {u t : Bool} → ConditionMeans names n s v u
+      → ConditionMeans names n s w t
       → (v ≡ w) × (u ≡ t)
   means-unique {v} {w} {u} {t} a b =
       let first = means-read v u a in
@@ -85,7 +86,8 @@ module _ (names : List Name) (n : ℕ) (s : List ℕ) where
 
   -- The code gives letters exactly where the bytes are a condition over known names, and at most 8
   -- parentheses are open.
-  judge-accepted : (v : ℕ) → judge names n s ≡ Letters v → Shallow s × ConditionMeans names n s v false
+  judge-accepted : (v : ℕ) → judge names n s ≡ Letters v
+      → Shallow s × ConditionMeans names n s v false
   unfolding judge
   judge-accepted v e = go (deep 0 0 s) (conditionOf names n s) refl refl e
     where
@@ -96,7 +98,8 @@ module _ (names : List Name) (n : ℕ) (s : List ℕ) where
           record { tree = m .tree; bytes = m .bytes; letters = m .letters ∙ (cc); flag = m .flag }
 
       go : (t : Bool) (r : Read) → deep 0 0 s ≡ t → conditionOf names n s ≡ r
-          → cond t (Refused 11) (verdictOf r) ≡ Letters v → Shallow s × ConditionMeans names n s v false
+          → cond t (Refused 11) (verdictOf r) ≡ Letters v
+          → Shallow s × ConditionMeans names n s v false
       go true r d p q = absurd (let z : _≡_ {A = ℕ} 0 1 = cc in omega arith)
       go false Nothing d p q = absurd (let z : _≡_ {A = ℕ} 0 1 = cc in omega arith)
       go false (Set w u next) d p q = (deep-false s d, flagged w u q (read-means w u next p))
@@ -107,7 +110,8 @@ module _ (names : List Name) (n : ℕ) (s : List ℕ) where
   pub judge-letters : (v : ℕ) → judge names n s ≡ Letters v → ConditionMeans names n s v false
   judge-letters v e = judge-accepted v e .1
 
-  pub judge-means : (v : ℕ) → Shallow s → ConditionMeans names n s v false → judge names n s ≡ Letters v
+  pub judge-means : (v : ℕ) → Shallow s → ConditionMeans names n s v false
+      → judge names n s ≡ Letters v
   unfolding judge
   judge-means v h m = rw (shallow-false s h, means-read v false m)
 

@@ -50,8 +50,10 @@ deep-over (x ∷ xs) o c e = go (ltb (c' + 8) o') refl e (deep-over xs o' c')
         (1, omega (arith, count-cons (code "(") x [], count-cons (code ")") x []))
     go false p q ih =
         let later = ih q in
-        let ys = take (later .0) xs in
-        (suc (later .0), omega (arith, later .1, count-cons (code "(") x ys, count-cons (code ")") x ys))
+        let ys = take (later .0) xs in (
+          suc (later .0),
+          omega (arith, later .1, count-cons (code "(") x ys, count-cons (code ")") x ys),
+        )
 
 deep-within : (xs : List ℕ) (o c : ℕ) → deep o c xs ≡ false → o ≤ c + 8 → (i : ℕ)
     → Within o c xs i
@@ -101,8 +103,8 @@ module _ (xs : List ℕ) where
       go false e = absurd (not-both h (deep-false e))
 
 -- The loop's turn.
-module _ (s : List ℕ) (o c i : ℕ) {x y : ℕ} (h : i < length s) (p : x ≡ isByte (getD s i 0) (code "("))
-    (q : y ≡ isByte (getD s i 0) (code ")")) where
+module _ (s : List ℕ) (o c i : ℕ) {x y : ℕ} (h : i < length s)
+    (p : x ≡ isByte (getD s i 0) (code "(")) (q : y ≡ isByte (getD s i 0) (code ")")) where
   pub deep-stop : c + y + 8 < o + x → deep o c (drop i s) ≡ true
   unfolding deep
   deep-stop g = rw (drop-cons s i 0 h, ← p, ← q, lt-ltb (c + y + 8) (o + x) g)

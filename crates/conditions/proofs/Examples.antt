@@ -6,7 +6,7 @@ use mathlib.Core.Path.{_≡_, refl}
 use lib.ListN.{replicate}
 use Rattle.letters.specs.Letter.{bitAt, setOf}
 use Rattle.letters.specs.Lists.{sameBytes}
-use Rattle.table.specs.Name.{letterRun}
+use Rattle.table.specs.Name.{nameRun}
 use Rattle.conditions.specs.Condition.{nameOf, place}
 use Rattle.conditions.specs.inner.Judge.{deep, judge}
 use Rattle.conditions.specs.inner.Reading.{isAt, nameAt, digitAt, reads, conditionOf}
@@ -44,6 +44,6 @@ examples : (oneSignal (a ∷ []) ≡ Letters 2) × (twoSignals (b ∷ []) ≡ Le
     × (oneSignal (round 9) ≡ Refused 11)
     × (oneSignal (code ")" ∷ replicate 9 (code "(")) ≡ Refused 12)
     × (oneSignal (code ")" ∷ replicate 10 (code "(")) ≡ Refused 11)
-unfolding judge deep conditionOf reads digitAt nameAt isAt letterRun nameOf place sameBytes
+unfolding judge deep conditionOf reads digitAt nameAt isAt nameRun nameOf place sameBytes
     bitAt setOf
 examples = (refl, refl, refl, refl, refl, refl, refl, refl, refl, refl, refl, refl)

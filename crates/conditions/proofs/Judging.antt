@@ -29,7 +29,8 @@ module _ (names : List Name) (n : ℕ) (xs : List ℕ) where
       flagged v true h m = is13 h m
       flagged v false h m = isSet (record { shallow = h; means = m })
 
-      read : (r : Read) → conditionOf names n xs ≡ r → Shallow xs → RightCondition names n xs (verdictOf r)
+      read : (r : Read) → conditionOf names n xs ≡ r → Shallow xs
+          → RightCondition names n xs (verdictOf r)
       read (Set v u next) e h = flagged v u h (read-means names n xs v u next e)
       read Nothing e h = is12 h (nothing-read names n xs e)
 
@@ -50,7 +51,8 @@ module _ (names : List Name) (n : ℕ) (xs : List ℕ) where
   right-judge r (isSet {v} c) =
       rw (shallow-false xs (c .shallow), means-read names n xs v false (c .means))
 
-  pub right-unique : {a b : Judged} → RightCondition names n xs a → RightCondition names n xs b → a ≡ b
+  pub right-unique : {a b : Judged} → RightCondition names n xs a → RightCondition names n xs b
+      → a ≡ b
   right-unique {a} {b} h g = sym (right-judge a h) ∙ right-judge b g
 
   -- The numbers that a condition can get.

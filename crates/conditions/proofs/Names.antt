@@ -13,44 +13,44 @@ use lib.Seq.{take-suc, drop-cons, set-at, take-all, length-take-le}
 use Rattle.letters.specs.Letter.{signalOn, setOf}
 use Rattle.letters.specs.Lists.{every}
 use Rattle.letters.proofs.Lists.{and-left, and-right}
-use Rattle.table.specs.Name.{isLetter, letterRun}
+use Rattle.table.specs.Name.{isLowercase, nameRun}
 use Rattle.table.specs.declared.Name.{Name}
 use Rattle.conditions.specs.Condition.{nameOf, place}
 use Rattle.conditions.specs.inner.Reading.{nameAt}
 use Rattle.conditions.specs.declared.Read.the-variants.{Set, Nothing}
 
 -- The letters in front.
-pub letterRun-le : (xs : List ℕ) → letterRun xs ≤ length xs
-unfolding letterRun
-letterRun-le [] = omega arith
-letterRun-le (b ∷ xs) = go (isLetter b) (letterRun-le xs)
+pub nameRun-le : (xs : List ℕ) → nameRun xs ≤ length xs
+unfolding nameRun
+nameRun-le [] = omega arith
+nameRun-le (b ∷ xs) = go (isLowercase b) (nameRun-le xs)
   where
-    go : (t : Bool) → letterRun xs ≤ length xs → cond t (suc (letterRun xs)) 0 ≤ suc (length xs)
+    go : (t : Bool) → nameRun xs ≤ length xs → cond t (suc (nameRun xs)) 0 ≤ suc (length xs)
     go true h = omega arith
     go false h = omega arith
 
-pub letterRun-every : (xs : List ℕ) → every isLetter (take (letterRun xs) xs) ≡ true
-unfolding letterRun every
-letterRun-every [] = refl
-letterRun-every (b ∷ xs) = go (isLetter b) refl (letterRun-every xs)
+pub nameRun-every : (xs : List ℕ) → every isLowercase (take (nameRun xs) xs) ≡ true
+unfolding nameRun every
+nameRun-every [] = refl
+nameRun-every (b ∷ xs) = go (isLowercase b) refl (nameRun-every xs)
   where
-    go : (t : Bool) → isLetter b ≡ t → every isLetter (take (letterRun xs) xs) ≡ true
-        → every isLetter (take (cond t (suc (letterRun xs)) 0) (b ∷ xs)) ≡ true
+    go : (t : Bool) → isLowercase b ≡ t → every isLowercase (take (nameRun xs) xs) ≡ true
+        → every isLowercase (take (cond t (suc (nameRun xs)) 0) (b ∷ xs)) ≡ true
     go true e h = rw e h
     go false e h = refl
 
-pub letterRun-append : (w rest : List ℕ) → every isLetter w ≡ true → letterRun rest ≡ 0
-    → letterRun (w ++ rest) ≡ length w
-unfolding letterRun every
-letterRun-append [] rest h e = e
-letterRun-append (b ∷ w) rest h e = rw (
-  and-left (isLetter b) (every isLetter w) h,
-  letterRun-append w rest (and-right (isLetter b) (every isLetter w) h) e,
+pub nameRun-append : (w rest : List ℕ) → every isLowercase w ≡ true → nameRun rest ≡ 0
+    → nameRun (w ++ rest) ≡ length w
+unfolding nameRun every
+nameRun-append [] rest h e = e
+nameRun-append (b ∷ w) rest h e = rw (
+  and-left (isLowercase b) (every isLowercase w) h,
+  nameRun-append w rest (and-right (isLowercase b) (every isLowercase w) h) e,
 )
 
-pub letterRun-ends : (s : List ℕ) (at : ℕ) {r : ℕ} → r ≡ letterRun (drop at s) → (r ≡ 0 → ⊥)
+pub nameRun-ends : (s : List ℕ) (at : ℕ) {r : ℕ} → r ≡ nameRun (drop at s) → (r ≡ 0 → ⊥)
     → at + r ≤ length s
-letterRun-ends s at e h = omega (arith, letterRun-le (drop at s), length-drop at s)
+nameRun-ends s at e h = omega (arith, nameRun-le (drop at s), length-drop at s)
 
 -- A name that is filled in: i letters of w stand in front of what is left of the zeros.
 abbrev pub filled : List ℕ → List ℕ → ℕ → List ℕ
@@ -85,25 +85,25 @@ filled-end (x ∷ w) (suc i) (suc m) k a b c d =
     ap (_∷_ x) (filled-end w i m k (omega arith) (omega arith) (omega arith) (omega arith))
 
 pub nameOf-filled : (w letters : List ℕ) (i : ℕ) → letters ≡ filled w (replicate 8 0) i → i ≤ 8
-    → i ≤ length w → min (length w) 8 ≤ i → record { letters = letters } ≡ nameOf w
+    → i ≤ length w → min (length w) 8 ≤ i → record { chars = letters } ≡ nameOf w
 unfolding nameOf
 nameOf-filled w letters i e h g f = rw (e, filled-end w i 8 8 g h f (omega arith))
 
 -- The name at a place, where r letters stand.
 module _ (names : List Name) (n : ℕ) (s : List ℕ) (at : ℕ) {r : ℕ}
-    (run : r ≡ letterRun (drop at s)) where
-  pub nameAt-none : r ≡ 0 → Nothing ≡ nameAt names n s at (letterRun (drop at s))
+    (run : r ≡ nameRun (drop at s)) where
+  pub nameAt-none : r ≡ 0 → Nothing ≡ nameAt names n s at (nameRun (drop at s))
   unfolding nameAt
   nameAt-none e = rw (← run, e)
 
-  pub nameAt-long : 8 < r → Nothing ≡ nameAt names n s at (letterRun (drop at s))
+  pub nameAt-long : 8 < r → Nothing ≡ nameAt names n s at (nameRun (drop at s))
   unfolding nameAt
   nameAt-long h = rw (← run, ne-eqb r 0 (omega arith), lt-ltb 8 r h)
 
   pub nameAt-some : {k used v : ℕ} {name : Name} → (r ≡ 0 → ⊥) → r ≤ 8
       → name ≡ nameOf (take r (take (length s - at) (drop at s))) → k ≡ place names name
       → used ≡ length names → v ≡ setOf n (λ l. signalOn l k)
-      → Set v (eqb k used) (at + r) ≡ nameAt names n s at (letterRun (drop at s))
+      → Set v (eqb k used) (at + r) ≡ nameAt names n s at (nameRun (drop at s))
   unfolding nameAt
   nameAt-some some few e p u w =
       let rest = take-all (length s - at) (drop at s) (rw length-drop (omega arith)) in

@@ -13,11 +13,11 @@ use lib.ListN.{length, getD, take, drop, replicate, drop-of-length-le}
 use lib.Seq.{drop-cons, getD-take, take-append-seam, take-append-add, drop-append-seam}
 use Rattle.letters.specs.Lists.{every, some}
 use Rattle.letters.proofs.Lists.{sameBytes-true, lt-length-take}
-use Rattle.table.specs.Name.{letterRun, sameName, nameFits}
+use Rattle.table.specs.Name.{nameRun, sameName, nameValid}
 use Rattle.table.specs.Row.{isZero}
 use Rattle.table.specs.declared.Name.{Name}
 use Rattle.conditions.specs.Condition.{IsName, nameOf, place}
-use Rattle.conditions.proofs.Names.{letterRun-append, take-zeros}
+use Rattle.conditions.proofs.Names.{nameRun-append, take-zeros}
 
 module _ (n : ℕ) (names : List Name) (name : Name) (k : ℕ) (d : Name)
     (h : k < n) (g : k < length names) where
@@ -59,10 +59,10 @@ module _ (names : List Name) (name : Name) where
   place-known h = sym (place-some names name) ∙ lt-ltb (place names name) (length names) h
 
 -- A name as it is kept: its letters, then zeros.
-letterRun-zeros : (k : ℕ) → letterRun (replicate k 0) ≡ 0
-unfolding letterRun
-letterRun-zeros zero = refl
-letterRun-zeros (suc k) = refl
+nameRun-zeros : (k : ℕ) → nameRun (replicate k 0) ≡ 0
+unfolding nameRun
+nameRun-zeros zero = refl
+nameRun-zeros (suc k) = refl
 
 every-zeros : (k : ℕ) → every isZero (replicate k 0) ≡ true
 unfolding every
@@ -70,7 +70,7 @@ every-zeros zero = refl
 every-zeros (suc k) = every-zeros k
 
 module _ (w : List ℕ) (h : IsName w) where
-  nameOf-letters : nameOf w .letters ≡ w ++ replicate (8 - length w) 0
+  nameOf-letters : nameOf w .chars ≡ w ++ replicate (8 - length w) 0
   unfolding nameOf
   nameOf-letters =
       let k = 8 - length w in
@@ -79,22 +79,22 @@ module _ (w : List ℕ) (h : IsName w) where
       ap (λ (m : ℕ). take m (w ++ replicate 8 0)) places
       ∙ take-append-add w (replicate 8 0) k ∙ rw (take-zeros k 8 (omega arith))
 
-  nameOf-run : letterRun (nameOf w .letters) ≡ length w
+  nameOf-run : nameRun (nameOf w .chars) ≡ length w
   nameOf-run =
       rw nameOf-letters
-      (letterRun-append w (replicate (8 - length w) 0) (h .letters)
-      (letterRun-zeros (8 - length w)))
+      (nameRun-append w (replicate (8 - length w) 0) (h .letters)
+      (nameRun-zeros (8 - length w)))
 
-  pub nameOf-fits : nameFits (nameOf w) ≡ true
-  unfolding nameFits
-  nameOf-fits = rw (nameOf-run, nameOf-letters, drop-append-seam, le-leb 1 (length w) (h .some))
+  pub nameOf-valid : nameValid (nameOf w) ≡ true
+  unfolding nameValid
+  nameOf-valid = rw (nameOf-run, nameOf-letters, drop-append-seam, le-leb 1 (length w) (h .some))
       (every-zeros (8 - length w))
 
-  nameOf-take : take (letterRun (nameOf w .letters)) (nameOf w .letters) ≡ w
+  nameOf-take : take (nameRun (nameOf w .chars)) (nameOf w .chars) ≡ w
   nameOf-take = rw (nameOf-run, nameOf-letters, take-append-seam)
 
 pub nameOf-injective : (v w : List ℕ) → IsName v → IsName w
     → sameName (nameOf v) (nameOf w) ≡ true → v ≡ w
 nameOf-injective v w h g e =
-    let same = sameBytes-true (nameOf v .letters) (nameOf w .letters) e in
+    let same = sameBytes-true (nameOf v .chars) (nameOf w .chars) e in
     sym (nameOf-take v h) ∙ rw same (nameOf-take w g)

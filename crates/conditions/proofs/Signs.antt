@@ -7,8 +7,9 @@ use mathlib.Core.Path.{_≡_, refl, _∙_}
 use lib.Dec.{eqb}
 use Rattle.letters.specs.Lists.{every, some}
 use Rattle.letters.proofs.Lists.{and-left, and-right, every-append}
-use Rattle.table.specs.Name.{isLetter}
+use Rattle.table.specs.Name.{isLowercase}
 use Rattle.table.specs.declared.Name.{Name}
+use Rattle.text.specs.Bytes.{bytes}
 use Rattle.text.specs.Lines.{count}
 use Rattle.text.proofs.Joins.{passing-free}
 use Rattle.conditions.specs.Condition.{Kind, Condition, oneTerm, or, oneFactor, and, negated}
@@ -17,14 +18,14 @@ use Rattle.conditions.specs.Judge.{IsCondition}
 
 abbrev pub inCondition : ℕ → Bool
 inCondition x =
-    isLetter x || some (eqb x) (code "|" ∷ code "&" ∷ code "!" ∷ code "0" ∷ code "1" ∷ code "(" ∷ code ")" ∷ [])
+    isLowercase x || some (eqb x) (bytes "|&!01()")
 
-letters-in : (w : List ℕ) → every isLetter w ≡ true → every inCondition w ≡ true
+letters-in : (w : List ℕ) → every isLowercase w ≡ true → every inCondition w ≡ true
 unfolding every
 letters-in [] h = refl
 letters-in (x ∷ w) h =
-    rw (and-left (isLetter x) (every isLetter w) h)
-    (letters-in w (and-right (isLetter x) (every isLetter w) h))
+    rw (and-left (isLowercase x) (every isLowercase w) h)
+    (letters-in w (and-right (isLowercase x) (every isLowercase w) h))
 
 text-in : {k : Kind} (c : Condition k) → every inCondition (text c) ≡ true
 unfolding text every some

@@ -13,7 +13,7 @@ use lib.ListN.{length, take, drop, length-drop, take-append-drop}
 use lib.Seq.{drop-drop, length-take-le}
 use Rattle.letters.specs.Letter.{setOf}
 use Rattle.letters.proofs.Sets.{setOf-or, setOf-and, setOf-others, setOf-false}
-use Rattle.table.specs.Name.{letterRun}
+use Rattle.table.specs.Name.{nameRun}
 use Rattle.table.specs.declared.Name.{Name}
 use Rattle.conditions.specs.Condition.{Kind, choice, term, factor, Condition, text, nameOf}
 use Rattle.conditions.specs.Condition.{place, holdsAt, unknown}
@@ -24,7 +24,7 @@ use Rattle.conditions.specs.inner.Reading.{nameAt, digitAt, reads}
 use Rattle.conditions.specs.declared.Read.{Read}
 use Rattle.conditions.specs.declared.Read.the-variants.{Set, Nothing}
 use Rattle.conditions.proofs.Bytes.{isAt-cons, isAt-lt}
-use Rattle.conditions.proofs.Names.{letterRun-le, letterRun-every}
+use Rattle.conditions.proofs.Names.{nameRun-le, nameRun-every}
 
 -- The bytes from one place to another are written by a condition with that set and flag.
 pub record Wrote (names : List Name) (n : ℕ) (s : List ℕ) (k : Kind) (at v : ℕ) (u : Bool)
@@ -144,12 +144,12 @@ module _ (names : List Name) (n : ℕ) (s : List ℕ) where
         flag = h .flag;
       }
 
-  name-sound : (at : ℕ) → Sound factor at (nameAt names n s at (letterRun (drop at s)))
+  name-sound : (at : ℕ) → Sound factor at (nameAt names n s at (nameRun (drop at s)))
   unfolding nameAt text holdsAt unknown
   name-sound at = go (eqb r 0) (ltb 8 r) refl refl
     where
       r : ℕ
-      r = letterRun (drop at s)
+      r = nameRun (drop at s)
 
       w : List ℕ
       w = take r (drop at s)
@@ -159,7 +159,7 @@ module _ (names : List Name) (n : ℕ) (s : List ℕ) where
       go true b p q = tt
       go false true p q = tt
       go false false p q =
-          let le = letterRun-le (drop at s) in
+          let le = nameRun-le (drop at s) in
           let len = length-take-le r (drop at s) le in
           let some = eqb-false r 0 p in
           let few = ltb-false 8 r q in
@@ -167,7 +167,7 @@ module _ (names : List Name) (n : ℕ) (s : List ℕ) where
             tree = named w (record {
               some = omega arith;
               few = omega arith;
-              letters = letterRun-every (drop at s);
+              letters = nameRun-every (drop at s);
             });
             starts = omega arith;
             ends = omega (arith, length-drop at s);
@@ -182,7 +182,7 @@ module _ (names : List Name) (n : ℕ) (s : List ℕ) where
     where
       go : (a b : Bool) → isAt s at (code "0") ≡ a → isAt s at (code "1") ≡ b → Sound factor at
           (cond a (Set 0 false (at + 1)) (cond b (Set (setOf n (λ _. true)) false (at + 1))
-          (nameAt names n s at (letterRun (drop at s)))))
+          (nameAt names n s at (nameRun (drop at s)))))
       go true b p q = record {
         tree = never;
         starts = omega arith;
@@ -212,15 +212,15 @@ module _ (names : List Name) (n : ℕ) (s : List ℕ) where
       go false true i j = grouped-sound at q j g
       go false false i j = digit-sound at
 
-  pub sound : (f at : ℕ) (k : Kind) → Sound k at (reads names n s f k at)
+  pub reads-sound : (f at : ℕ) (k : Kind) → Sound k at (reads names n s f k at)
   unfolding reads
-  sound zero at k = tt
-  sound (suc f) at choice =
+  reads-sound zero at k = tt
+  reads-sound (suc f) at choice =
       followed-sound terms at (reads names n s f term at) (reads names n s f choice)
-      (sound f at term) (λ m. sound f m choice)
-  sound (suc f) at term =
+      (reads-sound f at term) (λ m. reads-sound f m choice)
+  reads-sound (suc f) at term =
       followed-sound factors at (reads names n s f factor at) (reads names n s f term)
-      (sound f at factor) (λ m. sound f m term)
-  sound (suc f) at factor =
+      (reads-sound f at factor) (λ m. reads-sound f m term)
+  reads-sound (suc f) at factor =
       factor-sound at (reads names n s f factor (at + 1)) (reads names n s f choice (at + 1))
-      (sound f (at + 1) factor) (sound f (at + 1) choice)
+      (reads-sound f (at + 1) factor) (reads-sound f (at + 1) choice)

@@ -15,7 +15,7 @@ use Rattle.conditions.specs.inner.Reading.{rank, reads, ReadsAs, wholly,
 use Rattle.conditions.specs.declared.Read.{Read}
 use Rattle.conditions.specs.declared.Read.the-variants.{Set, Nothing}
 use Rattle.conditions.proofs.Bytes.{isAt-lt}
-use Rattle.conditions.proofs.Sound.{Sound, sound}
+use Rattle.conditions.proofs.Sound.{Sound, reads-sound}
 
 -- An answer is meant where one step gives it, with any fuel that is enough for the step.
 module _ {names : List Name} {n : ℕ} {s : List ℕ} {k : Kind} {at : ℕ} {r : Read} where
@@ -33,7 +33,7 @@ module _ {names : List Name} {n : ℕ} {s : List ℕ} {k : Kind} {at : ℕ} {r :
   reads-starts h e =
       let f = suc (3 * (length s - at) + rank k) in
       let read = sym (h .reading f (omega arith)) in
-      subst (Sound names n s k at) e (subst (Sound names n s k at) read (sound names n s f at k))
+      subst (Sound names n s k at) e (subst (Sound names n s k at) read (reads-sound names n s f at k))
       .starts
 
 -- Parts of a kind joined by a byte: terms by `|`, factors by `&`.
@@ -75,7 +75,8 @@ module _ {names : List Name} {n : ℕ} {s : List ℕ} {k part : Kind} {b : ℕ} 
       step (λ f p. rw (once f p, e, t, ← more .reading f (omega arith), i))
 
 module _ {names : List Name} {n : ℕ} {s : List ℕ} {at : ℕ} {q : Read} where
-  pub factor-negated : {r : Read} → isAt s at (code "!") ≡ true → ReadsAs names n s factor (at + 1) r
+  pub factor-negated : {r : Read} → isAt s at (code "!") ≡ true
+      → ReadsAs names n s factor (at + 1) r
       → q ≡ others n r → ReadsAs names n s factor at q
   unfolding reads
   factor-negated t h e =
@@ -89,7 +90,8 @@ module _ {names : List Name} {n : ℕ} {s : List ℕ} {at : ℕ} {q : Read} wher
       let inside = isAt-lt s at (code "(") t in
       step (λ f p. rw (u, t, ← h .reading f (omega arith), e))
 
-  pub factor-digit : isAt s at (code "!") ≡ false → isAt s at (code "(") ≡ false → q ≡ digitAt names n s at
+  pub factor-digit : isAt s at (code "!") ≡ false → isAt s at (code "(") ≡ false
+      → q ≡ digitAt names n s at
       → ReadsAs names n s factor at q
   unfolding reads
   factor-digit u t e = step (λ f p. rw (u, t, e))

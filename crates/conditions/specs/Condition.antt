@@ -8,14 +8,15 @@ use lib.Dec.{eqb}
 use lib.ListN.{length, take, replicate}
 use Rattle.letters.specs.Letter.{signalOn, setOf}
 use Rattle.letters.specs.Lists.{every}
-use Rattle.table.specs.Name.{isLetter, sameName}
+use Rattle.table.specs.Limits.{nameLength}
+use Rattle.table.specs.Name.{isLowercase, sameName}
 use Rattle.table.specs.declared.Name.{Name}
 
 -- "A name has 1 to 8 letters a-z."
 pub record IsName (w : List ℕ) : Type 0 where
   pub some : 1 ≤ length w
-  pub few : length w ≤ 8
-  pub letters : every isLetter w ≡ true
+  pub few : length w ≤ nameLength
+  pub letters : every isLowercase w ≡ true
 
 -- "A condition is a choice: one or more terms joined by `|`. A term is one or more factors joined
 -- by `&`. A factor is `!` and a factor, or a name, or `0` (false), or `1` (true), or a choice in
@@ -47,7 +48,7 @@ text (grouped c) = code "(" ∷ text c ++ code ")" ∷ []
 
 -- A name as a table value keeps it: its letters, then zeros, in eight places.
 unfoldable pub nameOf : List ℕ → Name
-nameOf w = record { letters = take 8 (w ++ replicate 8 0) }
+nameOf w = record { chars = take nameLength (w ++ replicate nameLength 0) }
 
 -- How many names stand before a name: all of them, where it is unknown.
 unfoldable pub place : List Name → Name → ℕ

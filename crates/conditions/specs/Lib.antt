@@ -1,5 +1,4 @@
--- Conditions: `Condition` (the grammar), `Depth`, `Judge` say what is right. That the code's answer is,
--- is promised.
+-- Conditions: `Condition` (the grammar), `Depth` and `Judge` say what is right.
 pub mod Condition
 pub mod Depth
 pub mod Judge

@@ -1,13 +1,13 @@
 // Reading a condition. specs/Condition.antt is the grammar and its meaning, specs/Judge.antt says
 // which of 11, 12 and 13 other bytes get; specs/inner/Reading.antt follows this code.
 use table::MOST_SIGNALS;
-use table::NAME_LETTERS;
+use table::NAME_CHARS;
 use table::Name;
 ghost use mathlib.Core.Path.{_≡_};
 ghost use lib.ListN.{take, drop};
 ghost use lib.Bits.{bitAnd, bitOr};
 ghost use Rattle.letters.specs.Letter.{width};
-ghost use Rattle.table.specs.Name.{letterRun};
+ghost use Rattle.table.specs.Name.{nameRun};
 ghost use Rattle.conditions.specs.Condition.{nameOf, place, Kind};
 ghost use Rattle.conditions.specs.inner.Judge.{isByte, deep, verdictOf, judge};
 ghost use Rattle.conditions.specs.inner.Reading.{isAt, nameAt, digitAt, joined, others};
@@ -37,11 +37,11 @@ fn is_at(s: &[u8], at: usize, b: u8) -> bool
 
 // How many letters stand at a place.
 fn run_at(s: &[u8], at: usize) -> usize
-    ensures { λ r. ⌜ r ≡ letterRun (drop at (now (s .entry))) ⌝ }
+    ensures { λ r. ⌜ r ≡ nameRun (drop at (now (s .entry))) ⌝ }
 {
     let mut i = at;
     while i < s.len() {
-        if !table::names::is_letter(s[i]) {
+        if !table::names::is_lowercase(s[i]) {
             return i - at;
         }
         i += 1;
@@ -53,19 +53,19 @@ fn run_at(s: &[u8], at: usize) -> usize
 pub fn name_of(s: &[u8], n: usize) -> Name
     ensures { λ r. ⌜ r ≡ nameOf (take n (now (s .entry))) ⌝ }
 {
-    let mut letters = [0u8; NAME_LETTERS];
+    let mut chars = [0u8; NAME_CHARS];
     let mut i: usize = 0;
-    while i < NAME_LETTERS {
+    while i < NAME_CHARS {
         if n <= i {
-            return Name { letters };
+            return Name { chars };
         }
         if s.len() <= i {
-            return Name { letters };
+            return Name { chars };
         }
-        letters[i] = s[i];
+        chars[i] = s[i];
         i += 1;
     }
-    Name { letters }
+    Name { chars }
 }
 
 // How many of the first `signals` names stand before a name: all of them, where it is unknown.
@@ -89,13 +89,13 @@ fn place_of(names: [Name; MOST_SIGNALS], signals: u8, name: Name) -> u8
 // The name at a place: none and over eight letters are no name.
 fn name_at(s: &[u8], at: usize, names: [Name; MOST_SIGNALS], signals: u8) -> Read
     ensures { λ r. ⌜ r ≡ nameAt (take signals names) (width signals) (now (s .entry)) at
-        (letterRun (drop at (now (s .entry)))) ⌝ }
+        (nameRun (drop at (now (s .entry)))) ⌝ }
 {
     let run = run_at(s, at);
     if run == 0 {
         return Read::Nothing;
     }
-    if NAME_LETTERS < run {
+    if NAME_CHARS < run {
         return Read::Nothing;
     }
     let name = name_of(&s[at..], run);

@@ -7,9 +7,9 @@ use mathlib.Core.Path.{_≡_, refl, _∙_}
 use borrow.Author.Tests.{le-leb, lt-leb}
 use lib.Dec.{leb}
 use lib.ListN.{length}
-use Rattle.table.specs.Valid.{tableFits, rowsOf}
+use Rattle.table.specs.Valid.{tableValid, rowsOf}
 use Rattle.table.specs.declared.Table.{Table}
-use Rattle.traces.specs.System.{Lawful}
+use Rattle.traces.specs.inner.Lawful.{Lawful}
 use Rattle.traces.specs.inner.Explore.{Tells}
 use Rattle.traces.specs.inner.Answer.{Answer, Right, answer}
 use Rattle.traces.specs.inner.Answer.Answer.{tooMany, sound, trapped}
@@ -34,7 +34,7 @@ module _ (table : Table) where
 
 module _ (table : Table) (lent : Lent) where
   -- Each call has one of the five answers.
-  judged-answered : tableFits table ≡ true → (r : Answer) → Right (systemOf table) (roomOf lent) r
+  judged-answered : tableValid table ≡ true → (r : Answer) → Right (systemOf table) (roomOf lent) r
       → ComputedAnswer table lent (judged r lent (withEntries table lent))
   unfolding judged
   judged-answered p r (tooMany-right m) = is20 p m
@@ -55,9 +55,9 @@ module _ (table : Table) (lent : Lent) where
 
   pub one-of-five : ComputedAnswer table lent (searchAnswer table lent)
   unfolding searchAnswer
-  one-of-five = go (tableFits table) refl
+  one-of-five = go (tableValid table) refl
     where
-      go : (b : Bool) → tableFits table ≡ b → ComputedAnswer table lent (cond b
+      go : (b : Bool) → tableValid table ≡ b → ComputedAnswer table lent (cond b
           (judged (answer (systemOf table) samePhases (roomOf lent)) lent (withEntries table lent))
           (record { found = refusedFound 17; lent = lent }))
       go true p = judged-answered p _
@@ -66,7 +66,7 @@ module _ (table : Table) (lent : Lent) where
       go false p = is17 p
 
   -- And no other: what one of them says fixes all of the answer.
-  pub right-judged : tableFits table ≡ true → (r : Answer) → Right (systemOf table) (roomOf lent) r
+  pub right-judged : tableValid table ≡ true → (r : Answer) → Right (systemOf table) (roomOf lent) r
       → searchAnswer table lent ≡ judged r lent (withEntries table lent)
   unfolding searchAnswer
   right-judged p r t = rw (

@@ -9,7 +9,7 @@ use Rattle.reader.specs.Reading.{emptyTable}
 use Rattle.verdict.specs.Found.{refusedFound, soundFound}
 use Rattle.search.specs.Lent.{Lent, roomOf, cleared}
 use Rattle.search.specs.inner.Computed.{searchAnswer}
-use Rattle.checker.specs.FileReport.{checkAnswer}
+use Rattle.checker.specs.inner.Computed.{checkAnswer}
 use Rattle.demands.specs.examples.Cases.{P as rowP, Q as rowQ, S as rowS, report, delayed, isRight}
 use Rattle.demands.specs.examples.Cases.{starred, CaseMeans}
 use Rattle.demands.specs.examples.Texts.{textP, textNotC, textQ, textS, textDelayed, fileOf, ReadAs}

@@ -11,11 +11,11 @@ use lib.ListN.{length, getD, take}
 use Rattle.letters.specs.Letter.{letters}
 use Rattle.table.specs.Limits.{mostBytes}
 use Rattle.table.specs.Row.{noRow}
-use Rattle.table.specs.Valid.{tableFits, rulesFit, rowsOf}
+use Rattle.table.specs.Valid.{tableValid, rowsValid, rowsOf}
 use Rattle.table.specs.declared.Row.{Row}
 use Rattle.table.specs.declared.Table.{Table}
 use Rattle.traces.specs.Trace.{AllBelow, run}
-use Rattle.traces.specs.Verdict.{ReachedMany}
+use Rattle.traces.specs.Count.{ReachedMany}
 use Rattle.step.specs.declared.Phase.the-variants.{Waiting}
 use Rattle.step.specs.Tick.{rowSystem}
 use Rattle.watcher.specs.declared.Watch.{Watch}
@@ -30,11 +30,12 @@ use Rattle.reader.proofs.Only as ReadingOnly
 use Rattle.verdict.specs.Found.{Verdict, valuesOf, soundFound, trappedFound}
 use Rattle.search.specs.Lent.{Lent, Searched, roomOf, systemOf, traced}
 use Rattle.search.specs.inner.Computed.{searchAnswer}
-use Rattle.demands.specs.Watching.{recordAfter, Accepted}
+use Rattle.demands.specs.Watching.{recordAfter, CallValid}
 use Rattle.demands.specs.Searching.{searchValues, Dead, EarliestDead, CanGoOn, Fit}
 use Rattle.demands.specs.Searching.{Entered, RightAnswer, SameLengths, SameScratch}
 use Rattle.demands.specs.Reporting.{RightReport, ProgramPrints}
-use Rattle.checker.specs.FileReport.{FileReport, checkAnswer, programLent}
+use Rattle.checker.specs.FileReport.{FileReport, programLent}
+use Rattle.checker.specs.inner.Computed.{checkAnswer}
 use Rattle.demands.proofs.Reading as Reading
 use Rattle.demands.proofs.Watching as Watching
 use Rattle.demands.proofs.Searching as Searching
@@ -61,14 +62,14 @@ accepts-exactly bytes table = (Reading.accepted-file bytes table, Reading.file-a
 
 -- "and after every trace of ticks each row is in the phase that the step rules give, broken or
 -- not": from any record that number 18 lets by;
-pub rows-follow : (s : ℕ) (rows : List Row) (watch : Watch) (w : List ℕ) → Accepted s rows watch
+pub rows-follow : (s : ℕ) (rows : List Row) (watch : Watch) (w : List ℕ) → CallValid s rows watch
     → AllBelow (letters s) w → (i : ℕ) → i < length rows
     → getD (phasesOf (recordAfter s rows watch w)) i Waiting
     ≡ run (rowSystem s (getD rows i noRow)) (getD (phasesOf watch) i Waiting) w
 rows-follow = WatchLaws.row-follows
 
 -- and so from the start: "All start waiting."
-pub from-start : (s : ℕ) (rows : List Row) (w : List ℕ) → rulesFit s rows ≡ true
+pub from-start : (s : ℕ) (rows : List Row) (w : List ℕ) → rowsValid s rows ≡ true
     → AllBelow (letters s) w → (i : ℕ) → i < length rows
     → getD (phasesOf (recordAfter s rows startWatch w)) i Waiting
     ≡ run (rowSystem s (getD rows i noRow)) Waiting w
@@ -84,7 +85,7 @@ module _ (table : Table) (lent : Lent) where
   search-only a right = Answers.answer-is table lent (Described.computed table lent right)
 
   -- "If the states don't fit, and only then, the search says so."
-  pub room-exactly : tableFits table ≡ true
+  pub room-exactly : tableValid table ≡ true
       → (searchValues table lent .number ≡ 20)
       ↔ ReachedMany (systemOf table) (suc (roomOf lent))
   room-exactly passes = (
@@ -149,14 +150,14 @@ module _ (table : Table) (one other : Lent) (lengths : SameLengths one other) wh
   pub same-found : searchAnswer table one .found ≡ searchAnswer table other .found
   same-found = SameInput.same-found table one other lengths
 
-  pub same-scratch : tableFits table ≡ true
+  pub same-scratch : tableValid table ≡ true
       → SameScratch (searchAnswer table one .lent) (searchAnswer table other .lent)
   same-scratch = SameInput.same-scratch table one other lengths
 
 -- "The signals and rows alone choose the verdict", with its trace, lost number and count, wherever
 -- the states and the trace fit.
 module _ (one other : Table) (lent held : Lent) (n : ℕ) (fit : Fit one lent n)
-    (passes : tableFits other ≡ true) (signals : one .signals ≡ other .signals)
+    (passes : tableValid other ≡ true) (signals : one .signals ≡ other .signals)
     (rows : rowsOf one ≡ rowsOf other) (room : n ≤ roomOf held)
     (short : (w : List ℕ) (k : ℕ) → EarliestDead (systemOf one) w k
     → (length w ≤ length (lent .trace)) × (length w ≤ length (held .trace))) where

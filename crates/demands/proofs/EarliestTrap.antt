@@ -12,7 +12,7 @@ use Rattle.traces.specs.System.{System}
 use Rattle.traces.specs.Trace.{run, Reached}
 use Rattle.traces.specs.Order.{Earlier, NotAfter}
 use Rattle.traces.specs.Doomed.{Doomed}
-use Rattle.traces.specs.Verdict.{Trapped}
+use Rattle.traces.specs.inner.Verdicts.{Trapped}
 use Rattle.traces.proofs.Numbers.{strong-induction}
 use Rattle.traces.proofs.Order.{earlier-irrefl, earlier-trans, notAfter-antisym}
 use Rattle.traces.proofs.Doomed.{lost-doomed, lost-unique}

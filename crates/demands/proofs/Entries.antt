@@ -7,7 +7,8 @@ use mathlib.Core.Logic._⊎_.{inl, inr}
 use mathlib.Core.Path.{_≡_, refl, sym, ap, _∙_}
 use lib.ListN.{length, getD, length-replicate}
 use Rattle.table.specs.declared.Table.{Table}
-use Rattle.traces.specs.System.{System, Lawful}
+use Rattle.traces.specs.System.{System}
+use Rattle.traces.specs.inner.Lawful.{Lawful}
 use Rattle.traces.specs.inner.Entries.{Entries, traceOf, Finished}
 use Rattle.traces.specs.inner.Explore.{Entry, listed, entryAt}
 use Rattle.traces.specs.inner.Least.{lostWithin}

@@ -8,7 +8,7 @@ use mathlib.Core.Path.{_≡_, refl}
 use lib.ListN.{length}
 use Rattle.letters.specs.Letter.{bitAt, setOf}
 use Rattle.letters.specs.Lists.{some}
-use Rattle.table.specs.Valid.{rulesFit, tableFits}
+use Rattle.table.specs.Valid.{rowsValid, tableValid}
 use Rattle.table.specs.declared.Row.{Row}
 use Rattle.table.specs.declared.Table.{Table}
 use Rattle.traces.specs.inner.Explore.{has, enter, visit, explore}
@@ -25,7 +25,7 @@ use Rattle.scratch.specs.inner.Same.{kindOf, elapsed, samePhase, samePhases}
 use Rattle.scratch.proofs.Same.{phases-tell}
 use Rattle.reader.specs.Reading.{emptyTable}
 use Rattle.reader.proofs.Accepted.{accepted-file}
-use Rattle.reader.proofs.Fits.{file-fits}
+use Rattle.reader.proofs.Valid.{file-valid}
 use Rattle.verdict.specs.Found.{refusedFound, soundFound}
 use Rattle.search.specs.Lent.{Lent, roomOf, systemOf, cleared}
 use Rattle.search.specs.inner.Computed.{searchAnswer}
@@ -65,8 +65,8 @@ module _ (lent : Lent) where
   read : ReadAs (textP ∷ []) (P ∷ [])
   read = boards-read .0
 
-  passes : tableFits alone ≡ true
-  passes = file-fits _ alone (accepted-file _ alone (read .accepted-is))
+  passes : tableValid alone ≡ true
+  passes = file-valid _ alone (accepted-file _ alone (read .accepted-is))
 
   -- "P alone: sound, two states";
   pub alone-sound : 2 ≤ roomOf lent
@@ -117,7 +117,7 @@ module _ (lent : Lent) where
       go (trapped-right c low t) =
           let read = both-read in
           let fit : Fit both lent 2 = record {
-            passes = file-fits _ both (accepted-file _ both (read .accepted-is));
+            passes = file-valid _ both (accepted-file _ both (read .accepted-is));
             count = rw (read .signals, read .rows-are) c;
             room = low;
           } in (
@@ -129,10 +129,10 @@ module _ (lent : Lent) where
           )
 
 -- The empty table is 17: it has no signals.
-empty-unfit : tableFits emptyTable ≡ false
-unfolding tableFits rulesFit
-empty-unfit = refl
+empty-invalid : tableValid emptyTable ≡ false
+unfolding tableValid rowsValid
+empty-invalid = refl
 
 pub empty-refused : (lent : Lent)
     → searchAnswer emptyTable lent ≡ record { found = refusedFound 17; lent = lent }
-empty-refused lent = answer-is emptyTable lent (is17 empty-unfit)
+empty-refused lent = answer-is emptyTable lent (is17 empty-invalid)

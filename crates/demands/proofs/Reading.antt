@@ -5,7 +5,7 @@ use mathlib.Core.List.{List}
 use mathlib.Core.Path.{_≡_, sym, ap, _∙_}
 use Rattle.letters.specs.Letter.{inSet}
 use Rattle.letters.proofs.Sets.{in-setOf}
-use Rattle.table.specs.Valid.{tableFits}
+use Rattle.table.specs.Valid.{tableValid}
 use Rattle.table.specs.declared.Name.{Name}
 use Rattle.table.specs.declared.Table.{Table}
 use Rattle.text.specs.Bounds.{IsBound}
@@ -24,7 +24,7 @@ use Rattle.reader.specs.Reading.{accepted}
 use Rattle.reader.specs.further.Witness.{Sized, Witnessed}
 use Rattle.reader.specs.declared.Reading.{Reading}
 use Rattle.reader.proofs.Accepted as Accepting
-use Rattle.reader.proofs.Fits as Fits
+use Rattle.reader.proofs.Valid as Valid
 use Rattle.reader.proofs.Witness as Witness
 
 -- Demand 2: "the reader accepts exactly the tables that document 01 describes, keeps each name and
@@ -42,13 +42,13 @@ module _ (bytes : List ℕ) (table : Table) where
       ap (λ (r : Reading). r .table)
       (sym (Accepting.file-accepted bytes table p) ∙ Accepting.file-accepted bytes other q)
 
-  pub file-fits : IsFile bytes table → tableFits table ≡ true
-  file-fits = Fits.file-fits bytes table
+  pub file-valid : IsFile bytes table → tableValid table ≡ true
+  file-valid = Valid.file-valid bytes table
 
 -- 17: "a table value with a signal count, names, row count or bounds that no accepted file has" is
 -- turned down, and only such: those of a value that is let by are in some accepted file.
-pub fits-witnessed : (table : Table) → Sized table → tableFits table ≡ true → Witnessed table
-fits-witnessed = Witness.fits-witnessed
+pub valid-witnessed : (table : Table) → Sized table → tableValid table ≡ true → Witnessed table
+valid-witnessed = Witness.valid-witnessed
 
 -- A letter is in a condition's set exactly where the condition holds, whichever tree its bytes are
 -- read as.
@@ -67,7 +67,8 @@ module _ (names : List Name) (n : ℕ) (xs : List ℕ) where
   pub judge-right : RightCondition names n xs (judge names n xs)
   judge-right = Judging.judge-right names n xs
 
-  pub right-unique : {a b : Judged} → RightCondition names n xs a → RightCondition names n xs b → a ≡ b
+  pub right-unique : {a b : Judged} → RightCondition names n xs a → RightCondition names n xs b
+      → a ≡ b
   right-unique = Judging.right-unique names n xs
 
 pub bound-right : (xs : List ℕ) (n : ℕ) → boundOf xs ≡ Value n → IsBound xs n

@@ -6,18 +6,19 @@ use mathlib.Core.List.{List, [], _∷_, _++_}
 use mathlib.Core.Path.{_≡_, refl}
 use lib.ListN.{length, length-replicate}
 use borrow.Author.Tests.{lt-ltb}
-use Rattle.letters.specs.Letter.{letters, letterFits}
+use Rattle.letters.specs.Letter.{letters, letterValid}
 use Rattle.letters.specs.Lists.{every}
 use Rattle.table.specs.declared.Table.{Table}
 use Rattle.traces.specs.Trace.{AllBelow}
-use Rattle.traces.specs.Verdict.{ReachedMany, Trapped, Sound}
+use Rattle.traces.specs.Count.{ReachedMany}
+use Rattle.traces.specs.inner.Verdicts.{Trapped, Sound}
 use Rattle.text.specs.Bounds.{decimal}
 use Rattle.text.specs.Lines.{ended}
 use Rattle.reader.specs.inner.File.{readAnswer}
 use Rattle.reader.specs.Reading.{refusedFile}
 use Rattle.reader.specs.Grammar.{IsFile}
 use Rattle.reader.proofs.Accepted.{file-accepted}
-use Rattle.reader.proofs.Fits.{file-fits}
+use Rattle.reader.proofs.Valid.{file-valid}
 use Rattle.scratch.specs.Room.{mostRoom}
 use Rattle.verdict.specs.declared.Found.{Found}
 use Rattle.verdict.specs.Found.{valuesOf}
@@ -27,7 +28,8 @@ use Rattle.search.specs.inner.Computed.{searchAnswer}
 use Rattle.report.specs.Report.{heading, refusedLine, sizeLines, soundLine, trappedLine, tickLines}
 use Rattle.report.specs.Report.{lostWord, reportLines}
 use Rattle.report.specs.further.Trace.{TraceInBuffer}
-use Rattle.checker.specs.FileReport.{checkAnswer, programLent}
+use Rattle.checker.specs.FileReport.{programLent}
+use Rattle.checker.specs.inner.Computed.{checkAnswer}
 use Rattle.demands.specs.Searching.{Fit}
 use Rattle.demands.specs.inner.Answers.{ComputedAnswer}
 use Rattle.demands.specs.inner.Answers.ComputedAnswer.{is17, is20, is21, isSound, isTrapped}
@@ -49,7 +51,7 @@ module _ (bytes : List ℕ) (lent : Lent) where
         → checkAnswer bytes lent .report ≡ ended (heading ∷ refusedLine 20 0 ∷ [])
     unfolding checkAnswer reportLines
     many-report many =
-        let answer = answer-is table lent (is20 (file-fits bytes table file) many) in
+        let answer = answer-is table lent (is20 (file-valid bytes table file) many) in
         rw (file-accepted bytes table file, answer)
 
     module _ (n : ℕ) (fit : Fit table lent n) where
@@ -74,7 +76,7 @@ module _ (bytes : List ℕ) (lent : Lent) where
           )
 
 -- The letters of an unbroken trace are letters of the table.
-below-fits : (s : ℕ) (w : List ℕ) → AllBelow (letters s) w → every (letterFits s) w ≡ true
+below-fits : (s : ℕ) (w : List ℕ) → AllBelow (letters s) w → every (letterValid s) w ≡ true
 unfolding every
 below-fits s [] h = refl
 below-fits s (l ∷ w) h = rw (lt-ltb l (letters s) (h .0), below-fits s w (h .1))

@@ -14,14 +14,15 @@ use Rattle.table.specs.declared.Table.{Table}
 use Rattle.reader.specs.Grammar.{IsFile}
 use Rattle.reader.specs.Right.{RightReading, is2}
 use Rattle.reader.specs.inner.File.{readAnswer}
-use Rattle.reader.proofs.Accepted.{FileAnswer, taken, turned, file-answer, file-accepted}
-use Rattle.reader.proofs.Fits.{file-fits}
+use Rattle.reader.proofs.Accepted.{Decided, taken, turned, read-decided, file-accepted}
+use Rattle.reader.proofs.Valid.{file-valid}
 use Rattle.reader.proofs.Found.{read-answered}
 use Rattle.reader.proofs.Only.{read-only}
 use Rattle.verdict.proofs.Buffer.{written-front}
 use Rattle.search.specs.Lent.{Lent, Searched}
 use Rattle.report.specs.Report.{reportLines, reportBytes}
-use Rattle.checker.specs.FileReport.{FileReport, checkAnswer, programLent}
+use Rattle.checker.specs.FileReport.{FileReport, programLent}
+use Rattle.checker.specs.inner.Computed.{checkAnswer}
 use Rattle.demands.specs.Reporting.{RightReport, ProgramPrints}
 use Rattle.demands.specs.Reporting.RightReport.{refused, searched}
 use Rattle.demands.specs.Reporting.ProgramPrints.{refused as refusal, many, sound, trapped}
@@ -32,7 +33,7 @@ use Rattle.demands.proofs.Described.{described, computed}
 use Rattle.demands.proofs.Reporting.{program-shows}
 
 module _ (bytes : List ℕ) (lent : Lent) where
-  by-reading : FileAnswer bytes (readAnswer bytes) → RightReport bytes lent (checkAnswer bytes lent)
+  by-reading : Decided bytes (readAnswer bytes) → RightReport bytes lent (checkAnswer bytes lent)
   unfolding checkAnswer reportLines
   by-reading (taken table file e) =
       rw e (searched file (described table lent (one-of-five table lent)))
@@ -40,7 +41,7 @@ module _ (bytes : List ℕ) (lent : Lent) where
       rw e (refused (subst (RightReading bytes) e (read-answered bytes)))
 
   pub report-answered : RightReport bytes lent (checkAnswer bytes lent)
-  report-answered = by-reading (file-answer bytes)
+  report-answered = by-reading (read-decided bytes)
 
   pub report-only : (f : FileReport) → RightReport bytes lent f → checkAnswer bytes lent ≡ f
   unfolding checkAnswer reportLines
@@ -54,7 +55,7 @@ module _ (bytes : List ℕ) where
       → ComputedAnswer table programLent a
       → ProgramPrints (reportBytes (table .count) (table .signals) (a .lent .trace) (a .found))
   unfolding reportLines
-  by-answer table file (is17 p) = absurd (true≢false (sym (file-fits bytes table file) ∙ p))
+  by-answer table file (is17 p) = absurd (true≢false (sym (file-valid bytes table file) ∙ p))
   by-answer table file (is20 p m) = many
   by-answer table file (is21 {k = k} {w = w} f t l) =
       absurd (lt-irrefl _ (lt-of-lt-of-le l (program-shows table _ f w k t)))
@@ -62,14 +63,14 @@ module _ (bytes : List ℕ) where
   by-answer table file (isTrapped {w = w} f t l) =
       rw (written-front w (programLent .trace) l) (trapped _ _ _ w _)
 
-  by-file : FileAnswer bytes (readAnswer bytes)
+  by-file : Decided bytes (readAnswer bytes)
       → ProgramPrints (checkAnswer bytes programLent .report)
   unfolding checkAnswer reportLines
   by-file (taken table file e) = rw e (by-answer table file (one-of-five table programLent))
   by-file (turned number line one small low e) = rw e (refusal number line one small)
 
   pub program-prints : ProgramPrints (checkAnswer bytes programLent .report)
-  program-prints = by-file (file-answer bytes)
+  program-prints = by-file (read-decided bytes)
 
 -- The first bytes of a file that is too long say so.
 pub first-bytes : (bytes : List ℕ) (lent : Lent)

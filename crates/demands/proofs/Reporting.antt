@@ -5,7 +5,8 @@ use mathlib.Core.Path.{_≡_}
 use lib.ListN.{length, take}
 use native.Mathlib.Nat.{lt-of-lt-of-le}
 use Rattle.table.specs.declared.Table.{Table}
-use Rattle.traces.specs.Verdict.{ReachedMany, Trapped}
+use Rattle.traces.specs.Count.{ReachedMany}
+use Rattle.traces.specs.inner.Verdicts.{Trapped}
 use Rattle.text.specs.Bounds.{decimal}
 use Rattle.text.specs.Lines.{ended}
 use Rattle.reader.specs.Reading.{refusedFile}
@@ -20,7 +21,8 @@ use Rattle.report.specs.Report.{heading, refusedLine, sizeLines, soundLine, tra
 use Rattle.report.specs.Report.{lostWord, reportBytes}
 use Rattle.report.specs.further.Trace.{TraceInBuffer}
 use Rattle.report.proofs.Injective.{SameReported, bytes-injective}
-use Rattle.checker.specs.FileReport.{checkAnswer, programLent, mostReport}
+use Rattle.checker.specs.FileReport.{programLent, mostReport}
+use Rattle.checker.specs.inner.Computed.{checkAnswer}
 use Rattle.checker.proofs.ReportLength as ReportLength
 use Rattle.demands.specs.Searching.{EarliestDead, CanGoOn, Fit}
 use Rattle.demands.proofs.ReportLaws as Laws

@@ -6,9 +6,9 @@ use mathlib.Core.Bool.{true, true≢false}
 use mathlib.Core.List.{List}
 use mathlib.Core.Path.{_≡_, refl, sym, _∙_}
 use lib.ListN.{length, take}
-use Rattle.table.specs.Valid.{tableFits, rowsOf}
+use Rattle.table.specs.Valid.{tableValid, rowsOf}
 use Rattle.table.specs.declared.Table.{Table}
-use Rattle.traces.specs.Verdict.{Trapped, Sound}
+use Rattle.traces.specs.inner.Verdicts.{Trapped, Sound}
 use Rattle.verdict.specs.Found.{valuesOf, soundFound, trappedFound}
 use Rattle.verdict.proofs.Buffer.{written-front}
 use Rattle.search.specs.Lent.{Lent, Searched, roomOf, systemOf, cleared, traced}
@@ -24,11 +24,11 @@ use Rattle.demands.proofs.SearchLaws.{fit-cases}
 module _ (table : Table) (one other : Lent) (lengths : SameLengths one other) where
   record SameAnswer (a : Searched) : Type 0 where
     found : a .found ≡ searchAnswer table other .found
-    scratch : tableFits table ≡ true
+    scratch : tableValid table ≡ true
         → SameScratch (a .lent) (searchAnswer table other .lent)
 
   same-answer : {a b : Searched} → ComputedAnswer table other b → a .found ≡ b .found
-      → (tableFits table ≡ true → SameScratch (a .lent) (b .lent)) → SameAnswer a
+      → (tableValid table ≡ true → SameScratch (a .lent) (b .lent)) → SameAnswer a
   same-answer is found scratch =
       let same = answer-is table other is in
       record { found = rw same found; scratch = λ passes. rw same (scratch passes) }
@@ -77,13 +77,13 @@ module _ (table : Table) (one other : Lent) (lengths : SameLengths one other) wh
   pub same-found : searchAnswer table one .found ≡ searchAnswer table other .found
   same-found = other-answer (one-of-five table one) .found
 
-  pub same-scratch : tableFits table ≡ true
+  pub same-scratch : tableValid table ≡ true
       → SameScratch (searchAnswer table one .lent) (searchAnswer table other .lent)
   same-scratch = other-answer (one-of-five table one) .scratch
 
 -- Tables with the same signals and rows, and lent memory that holds the entries and the trace.
 module _ (one other : Table) (lent held : Lent) (n : ℕ) (fit : Fit one lent n)
-    (passes : tableFits other ≡ true) (signals : one .signals ≡ other .signals)
+    (passes : tableValid other ≡ true) (signals : one .signals ≡ other .signals)
     (rows : rowsOf one ≡ rowsOf other) (room : n ≤ roomOf held)
     (short : (w : List ℕ) (k : ℕ) → Trapped (systemOf one) w k
     → (length w ≤ length (lent .trace)) × (length w ≤ length (held .trace))) where

@@ -7,9 +7,10 @@ use mathlib.Core.Logic.{_⊎_, _↔_}
 use mathlib.Core.Logic._⊎_.{inl, inr}
 use mathlib.Core.Path.{_≡_, refl, sym, ap, _∙_}
 use lib.ListN.{length}
-use Rattle.table.specs.Valid.{tableFits, rowsOf}
+use Rattle.table.specs.Valid.{tableValid, rowsOf}
 use Rattle.table.specs.declared.Table.{Table}
-use Rattle.traces.specs.Verdict.{ReachedMany, Trapped, Sound}
+use Rattle.traces.specs.Count.{ReachedMany}
+use Rattle.traces.specs.inner.Verdicts.{Trapped, Sound}
 use Rattle.traces.proofs.Count.{count-unique, fits-or-not}
 use Rattle.traces.proofs.Verdict.{trapped-unique, sound-not-doomed}
 use Rattle.verdict.specs.Found.{Verdict, Values, valuesOf}
@@ -42,13 +43,13 @@ module _ (table : Table) (lent : Lent) where
   pub record Said (values : Values) : Type 0 where
     pub line : values .line ≡ 0
     pub most : values .count ≤ mostStates (rowsOf table)
-    pub by-17 : values .number ≡ 17 → tableFits table ≡ false
+    pub by-17 : values .number ≡ 17 → tableValid table ≡ false
     pub by-20 : values .number ≡ 20 → ReachedMany (systemOf table) (suc (roomOf lent))
     pub by-21 : values .number ≡ 21 → LongTrace
     pub by-sound : values .verdict ≡ Verdict.saysSound → Sound (systemOf table)
     pub by-trapped : values .verdict ≡ Verdict.saysTrapped → FitTrace
 
-  refused-says : (number : ℕ) → (number ≡ 17 → tableFits table ≡ false)
+  refused-says : (number : ℕ) → (number ≡ 17 → tableValid table ≡ false)
       → (number ≡ 20 → ReachedMany (systemOf table) (suc (roomOf lent)))
       → (number ≡ 21 → LongTrace) → Said (valuesOf (refusedFound number))
   refused-says number invalid many long = record {
@@ -94,7 +95,7 @@ module _ (table : Table) (lent : Lent) where
   search-says = answer-says (one-of-five table lent)
 
   -- The states of an accepted table fit, or there are more of them than the room.
-  pub fit-or-many : tableFits table ≡ true
+  pub fit-or-many : tableValid table ≡ true
       → ((n : ℕ) × Fit table lent n) ⊎ ReachedMany (systemOf table) (suc (roomOf lent))
   fit-or-many q = go (one-of-five table lent)
     where

@@ -5,15 +5,17 @@ use mathlib.Core.List.{List}
 use mathlib.Core.Logic.{_⊎_, _↔_}
 use mathlib.Core.Path.{_≡_}
 use lib.ListN.{length}
-use Rattle.table.specs.Valid.{tableFits, rowsOf}
+use Rattle.table.specs.Valid.{tableValid, rowsOf}
 use Rattle.table.specs.declared.Table.{Table}
 use Rattle.traces.specs.System.{System}
 use Rattle.traces.specs.Trace.{run, Unbroken, Reached}
 use Rattle.traces.specs.Doomed.{Doomed}
-use Rattle.traces.specs.Verdict.{ReachedMany, Trapped, Sound}
+use Rattle.traces.specs.Count.{ReachedMany}
+use Rattle.traces.specs.inner.Verdicts.{Trapped, Sound}
 use Rattle.traces.proofs.Verdict.{trapped-not-sound}
 use Rattle.step.specs.declared.Phase.{Phase}
-use Rattle.successors.specs.State.{packed, unpacked}
+use Rattle.successors.specs.State.{packed}
+use Rattle.successors.specs.further.Unpacked.{unpacked}
 use Rattle.verdict.specs.Found.{Verdict, refusedFound, soundFound, trappedFound}
 use Rattle.search.specs.Lent.{Lent, roomOf, systemOf, cleared, traced}
 use Rattle.search.specs.inner.Computed.{searchAnswer}
@@ -40,15 +42,15 @@ module _ (table : Table) (lent : Lent) where
   search-lengths = Entries.lengths-kept table lent
 
   -- 17: "a table value .. that no accepted file has"; "lent memory is unchanged".
-  pub refused-17 : tableFits table ≡ false
+  pub refused-17 : tableValid table ≡ false
       → searchAnswer table lent ≡ record { found = refusedFound 17; lent = lent }
   refused-17 p = answer-is table lent (is17 p)
 
-  pub says-17 : searchValues table lent .number ≡ 17 → tableFits table ≡ false
+  pub says-17 : searchValues table lent .number ≡ 17 → tableValid table ≡ false
   says-17 = Laws.search-says table lent .by-17
 
   -- 20: "If the states don't fit, and only then, the search says so." "20 sets all scratch to 0."
-  pub refused-20 : tableFits table ≡ true → ReachedMany (systemOf table) (suc (roomOf lent))
+  pub refused-20 : tableValid table ≡ true → ReachedMany (systemOf table) (suc (roomOf lent))
       → searchAnswer table lent ≡ record { found = refusedFound 20; lent = cleared lent }
   refused-20 p m = answer-is table lent (is20 p m)
 
@@ -57,7 +59,7 @@ module _ (table : Table) (lent : Lent) where
   says-20 = Laws.search-says table lent .by-20
 
   -- The states of an accepted table fit, or they do not.
-  pub fit-or-many : tableFits table ≡ true
+  pub fit-or-many : tableValid table ≡ true
       → ((n : ℕ) × Fit table lent n) ⊎ ReachedMany (systemOf table) (suc (roomOf lent))
   fit-or-many = Laws.fit-or-many table lent
 
@@ -68,7 +70,7 @@ module _ (table : Table) (lent : Lent) where
 
 -- "A state is the phases of all rows, as one number of 64 bits": each reached state's number is one
 -- of 64 bits, and gives the state back.
-module _ (table : Table) (passes : tableFits table ≡ true) (phases : List Phase)
+module _ (table : Table) (passes : tableValid table ≡ true) (phases : List Phase)
     (reached : Reached (systemOf table) phases) where
   pub number-fits : packed phases < 2 ^ 64
   number-fits = Numbers.number-fits table passes phases reached

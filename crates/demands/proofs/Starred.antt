@@ -10,7 +10,7 @@ use lib.ListN.{length, getD}
 use Rattle.letters.specs.Letter.{bitAt, setOf}
 use Rattle.letters.specs.Lists.{every, some, sameBytes}
 use Rattle.letters.proofs.Lists.{and-left, and-right, every-at, sameBytes-true}
-use Rattle.table.specs.Valid.{tableFits, rowsOf}
+use Rattle.table.specs.Valid.{tableValid, rowsOf}
 use Rattle.table.specs.declared.Row.{Row}
 use Rattle.table.specs.declared.Table.{Table}
 use Rattle.traces.specs.System.{System}
@@ -72,7 +72,7 @@ table-right rows w k n h room fits =
 
 -- The whole answer, with the scratch computed.
 module _ (rows : List Row) (w : List ℕ) (k n : ℕ) (h : isRight (traps rows w k n) ≡ true)
-    (table : Table) (lent : Lent) (passes : tableFits table ≡ true) (signals : table .signals ≡ 2)
+    (table : Table) (lent : Lent) (passes : tableValid table ≡ true) (signals : table .signals ≡ 2)
     (is : rowsOf table ≡ rows) (room : n ≤ roomOf lent) where
   rightly : Right (systemOf table) (roomOf lent) (trapped n w k)
   rightly = rw (signals, is) (table-right rows w k n h (roomOf lent) room)
@@ -114,7 +114,7 @@ report-right room fits =
     table-right report (1 ∷ []) 1 2 (every-at isRight starred 14 (after P [] 0) starred-right
     (omega arith)) room fits
 
-module _ (table : Table) (lent : Lent) (passes : tableFits table ≡ true)
+module _ (table : Table) (lent : Lent) (passes : tableValid table ≡ true)
     (signals : table .signals ≡ 2) (short : 1 ≤ length (lent .trace)) where
   pub report-trapped : rowsOf table ≡ report → 2 ≤ roomOf lent
       → searchAnswer table lent ≡ record {

@@ -6,7 +6,7 @@ use mathlib.Core.List.{List, []}
 use Rattle.traces.specs.System.{System}
 use Rattle.traces.specs.Trace.{run, Unbroken}
 use Rattle.traces.specs.Doomed.{Doomed, Breaks}
-use Rattle.traces.specs.Verdict.{Trapped, Sound}
+use Rattle.traces.specs.inner.Verdicts.{Trapped, Sound}
 use Rattle.traces.proofs.Runs.{run-append, not-both, below-append, below-rest}
 use Rattle.demands.specs.Searching.{Dead, EarliestDead, CanGoOn}
 

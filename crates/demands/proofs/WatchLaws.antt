@@ -7,23 +7,24 @@ use mathlib.Core.List.{List, [], _∷_, map}
 use mathlib.Core.Path.{_≡_, refl, sym, ap, _∙_}
 use borrow.Author.Tests.{lt-ltb}
 use lib.ListN.{length, getD, replicate}
-use Rattle.letters.specs.Letter.{letters, letterFits}
+use Rattle.letters.specs.Letter.{letters, letterValid}
 use Rattle.letters.specs.Lists.{every}
 use Rattle.letters.proofs.Lists.{and-right}
 use Rattle.table.specs.Row.{noRow}
-use Rattle.table.specs.Valid.{rulesFit}
-use Rattle.table.proofs.Laws.{rulesFit-count, rulesFit-rows}
+use Rattle.table.specs.Valid.{rowsValid}
+use Rattle.table.proofs.Laws.{rowsValid-count, rowsValid-rows}
 use Rattle.table.specs.declared.Row.{Row}
 use Rattle.traces.specs.Trace.{AllBelow, run}
 use Rattle.traces.proofs.Runs.{broken-run}
 use Rattle.step.specs.declared.Phase.{Phase}
 use Rattle.step.specs.declared.Phase.the-variants.{Waiting}
-use Rattle.step.specs.Phase.{codeOf, phaseOf}
+use Rattle.step.specs.Phase.{codeOf}
+use Rattle.step.specs.further.Codes.{phaseOf}
 use Rattle.step.specs.Tick.{tick, someBroken, rowSystem, tableSystem}
-use Rattle.step.specs.Fits.{phasesFit, isWaiting, phaseFits}
+use Rattle.step.specs.Valid.{phasesValid, isWaiting, phaseValid}
 use Rattle.step.proofs.States.{phases-back}
-use Rattle.step.proofs.Rows.{tick-fits}
-use Rattle.step.proofs.Systems.{table-lawful, run-at, run-fits}
+use Rattle.step.proofs.Rows.{tick-valid}
+use Rattle.step.proofs.Systems.{table-lawful, run-at, run-valid}
 use Rattle.table.specs.declared.Outcome.the-variants.{Accepted as Taken}
 use Rattle.watcher.specs.declared.Ticked.{Ticked}
 use Rattle.watcher.specs.declared.Watch.{Watch}
@@ -32,25 +33,25 @@ use Rattle.watcher.specs.Answer.{firstNumber, answered, tickAnswer}
 use Rattle.table.specs.Refusal.{numberOf, lineOf}
 use Rattle.watcher.proofs.Records.{phases-watch}
 use Rattle.table.specs.Limits.{mostRows}
-use Rattle.demands.specs.Watching.{recordAfter, Accepted}
+use Rattle.demands.specs.Watching.{recordAfter, CallValid}
 
 module _ (s : ℕ) (rows : List Row) where
   -- A call with an accepted record and a letter of the table is taken, and moves the record on.
-  pub tick-taken : (watch : Watch) (l : ℕ) → Accepted s rows watch → l < letters s
+  pub tick-taken : (watch : Watch) (l : ℕ) → CallValid s rows watch → l < letters s
       → tickAnswer s rows watch l ≡ record
       { outcome = Taken; watch = watchOf (tick rows l (phasesOf watch)) }
   unfolding tickAnswer answered
   tick-taken watch l ok h = rw (ok .rules, ok .state, lt-ltb l (letters s) h)
 
-  tick-accepted : (watch : Watch) (l : ℕ) → Accepted s rows watch
-      → Accepted s rows (watchOf (tick rows l (phasesOf watch)))
+  tick-accepted : (watch : Watch) (l : ℕ) → CallValid s rows watch
+      → CallValid s rows (watchOf (tick rows l (phasesOf watch)))
   tick-accepted watch l ok = record {
     rules = ok .rules;
-    state = rw phases-watch (tick-fits rows l (phasesOf watch) (ok .state));
+    state = rw phases-watch (tick-valid rows l (phasesOf watch) (ok .state));
   }
 
   -- The record after a trace is the phases that the step rules give.
-  pub after-run : (watch : Watch) (w : List ℕ) → Accepted s rows watch → AllBelow (letters s) w
+  pub after-run : (watch : Watch) (w : List ℕ) → CallValid s rows watch → AllBelow (letters s) w
       → phasesOf (recordAfter s rows watch w) ≡ run (tableSystem s rows) (phasesOf watch) w
   unfolding recordAfter run
   after-run watch [] ok h = refl
@@ -62,14 +63,14 @@ module _ (s : ℕ) (rows : List Row) where
       (phases-watch (tick rows l (phasesOf watch)))
 
   -- What the watcher made from an accepted record is accepted.
-  pub after-accepted : (watch : Watch) (w : List ℕ) → Accepted s rows watch → AllBelow (letters s) w
-      → Accepted s rows (recordAfter s rows watch w)
+  pub after-accepted : (watch : Watch) (w : List ℕ) → CallValid s rows watch → AllBelow (letters s) w
+      → CallValid s rows (recordAfter s rows watch w)
   after-accepted watch w ok h = record {
     rules = ok .rules;
-    state = rw (after-run watch w ok h) (run-fits s rows (phasesOf watch) w (ok .state));
+    state = rw (after-run watch w ok h) (run-valid s rows (phasesOf watch) w (ok .state));
   }
 
-  pub after-broken : (watch : Watch) (w : List ℕ) → Accepted s rows watch → AllBelow (letters s) w
+  pub after-broken : (watch : Watch) (w : List ℕ) → CallValid s rows watch → AllBelow (letters s) w
       → someBroken (phasesOf watch) ≡ true → someBroken (phasesOf (recordAfter s rows watch w))
       ≡ true
   after-broken watch w ok h b =
@@ -77,19 +78,19 @@ module _ (s : ℕ) (rows : List Row) where
       (phasesOf watch) w b)
 
   -- The codes of an accepted record lead back to its phases.
-  pub codes-back : (watch : Watch) → Accepted s rows watch
+  pub codes-back : (watch : Watch) → CallValid s rows watch
       → map phaseOf (map codeOf (phasesOf watch)) ≡ phasesOf watch
-  codes-back watch ok = phases-back s rows (phasesOf watch) (rulesFit-rows s rows (ok .rules))
+  codes-back watch ok = phases-back s rows (phasesOf watch) (rowsValid-rows s rows (ok .rules))
       (ok .state)
 
 -- A record that number 18 lets by has a phase for each row.
-pub fits-long : (rows : List Row) (phases : List Phase) → phasesFit rows phases ≡ true
+pub fits-long : (rows : List Row) (phases : List Phase) → phasesValid rows phases ≡ true
     → length rows ≤ length phases
-unfolding phasesFit
+unfolding phasesValid
 fits-long [] phases h = omega arith
 fits-long (row ∷ rows) [] h = absurd (true≢false (sym h))
 fits-long (row ∷ rows) (phase ∷ phases) h =
-    let rest = fits-long rows phases (and-right (phaseFits row phase) (phasesFit rows phases) h) in
+    let rest = fits-long rows phases (and-right (phaseValid row phase) (phasesValid rows phases) h) in
     omega arith
 
 -- The record before the first tick is accepted with every rules that are.
@@ -98,17 +99,17 @@ unfolding every isWaiting
 start-waits zero = refl
 start-waits (suc n) = start-waits n
 
-start-fits : (rows : List Row) (n : ℕ) → length rows ≤ n
-    → phasesFit rows (replicate n Waiting) ≡ true
-unfolding phasesFit phaseFits
-start-fits [] n h = start-waits n
-start-fits (row ∷ rows) zero h = absurd (omega arith)
-start-fits (row ∷ rows) (suc n) h = start-fits rows n (omega arith)
+start-valid : (rows : List Row) (n : ℕ) → length rows ≤ n
+    → phasesValid rows (replicate n Waiting) ≡ true
+unfolding phasesValid phaseValid
+start-valid [] n h = start-waits n
+start-valid (row ∷ rows) zero h = absurd (omega arith)
+start-valid (row ∷ rows) (suc n) h = start-valid rows n (omega arith)
 
-pub start-accepted : (s : ℕ) (rows : List Row) → rulesFit s rows ≡ true → Accepted s rows startWatch
+pub start-accepted : (s : ℕ) (rows : List Row) → rowsValid s rows ≡ true → CallValid s rows startWatch
 start-accepted s rows h = record {
   rules = h;
-  state = rw phases-watch (start-fits rows mostRows (rulesFit-count s rows h .1));
+  state = rw phases-watch (start-valid rows mostRows (rowsValid-count s rows h .1));
 }
 
 -- Each row of it waits.
@@ -140,25 +141,25 @@ kept-is (suc n) k moved watch e = refl
 
 module _ (s : ℕ) (rows : List Row) (watch : Watch) (l : ℕ) where
   pub answer-number : numberOf (tickAnswer s rows watch l .outcome)
-      ≡ firstNumber (rulesFit s rows) (phasesFit rows (phasesOf watch)) (letterFits s l)
+      ≡ firstNumber (rowsValid s rows) (phasesValid rows (phasesOf watch)) (letterValid s l)
   unfolding tickAnswer
   answer-number = number-is _ (watchOf (tick rows l (phasesOf watch))) watch
 
   pub answer-line : lineOf (tickAnswer s rows watch l .outcome) ≡ 0
   unfolding tickAnswer
   answer-line =
-      line-is (firstNumber (rulesFit s rows) (phasesFit rows (phasesOf watch)) (letterFits s l))
+      line-is (firstNumber (rowsValid s rows) (phasesValid rows (phasesOf watch)) (letterValid s l))
       (watchOf (tick rows l (phasesOf watch))) watch
 
   pub answer-kept : (n : ℕ) → numberOf (tickAnswer s rows watch l .outcome) ≡ suc n
       → tickAnswer s rows watch l .watch ≡ watch
   unfolding tickAnswer
   answer-kept n e =
-      kept-is (firstNumber (rulesFit s rows) (phasesFit rows (phasesOf watch)) (letterFits s l)) n
+      kept-is (firstNumber (rowsValid s rows) (phasesValid rows (phasesOf watch)) (letterValid s l)) n
       (watchOf (tick rows l (phasesOf watch))) watch (sym answer-number ∙ e)
 
 -- After a trace each row is where its own system is.
-pub row-follows : (s : ℕ) (rows : List Row) (watch : Watch) (w : List ℕ) → Accepted s rows watch
+pub row-follows : (s : ℕ) (rows : List Row) (watch : Watch) (w : List ℕ) → CallValid s rows watch
     → AllBelow (letters s) w → (i : ℕ) → i < length rows
     → getD (phasesOf (recordAfter s rows watch w)) i Waiting
     ≡ run (rowSystem s (getD rows i noRow)) (getD (phasesOf watch) i Waiting) w

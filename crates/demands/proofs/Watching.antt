@@ -4,39 +4,42 @@ use mathlib.Core.Bool.{true}
 use mathlib.Core.List.{List, map}
 use mathlib.Core.Path.{_≡_, sym, ap, _∙_}
 use lib.ListN.{length, getD}
-use Rattle.letters.specs.Letter.{letters, letterFits}
+use Rattle.letters.specs.Letter.{letters, letterValid}
 use Rattle.letters.specs.Lists.{every}
 use Rattle.table.specs.Row.{noRow}
-use Rattle.table.specs.Valid.{rulesFit, tableFits, rowsOf}
+use Rattle.table.specs.Valid.{rowsValid, tableValid, rowsOf}
 use Rattle.table.specs.declared.Row.{Row}
 use Rattle.table.specs.declared.Table.{Table}
-use Rattle.table.proofs.Laws.{rulesFit-rows}
+use Rattle.table.proofs.Laws.{rowsValid-rows}
 use Rattle.traces.specs.Trace.{AllBelow, run}
 use Rattle.step.specs.declared.Phase.{Phase}
 use Rattle.step.specs.declared.Phase.the-variants.{Waiting}
-use Rattle.step.specs.Phase.{codeOf, phaseOf, isBroken}
+use Rattle.step.specs.Phase.{codeOf, isBroken}
+use Rattle.step.specs.further.Codes.{phaseOf}
 use Rattle.step.specs.Tick.{someBroken, rowSystem, tableSystem}
-use Rattle.step.specs.Fits.{phasesFit, codesFit}
-use Rattle.step.proofs.States.{codes-fit, codes-phases}
+use Rattle.step.specs.Valid.{phasesValid}
+use Rattle.step.specs.further.Codes.{codesValid}
+use Rattle.step.proofs.States.{codes-valid, codes-phases}
 use Rattle.step.proofs.Systems.{row-lawful}
 use Rattle.traces.proofs.Runs.{broken-run}
 use Rattle.table.specs.declared.Outcome.the-variants.{Accepted as Taken}
 use Rattle.watcher.specs.declared.Ticked.{Ticked}
 use Rattle.watcher.specs.declared.Watch.{Watch}
 use Rattle.watcher.specs.Watch.{phasesOf, watchOf, startWatch}
-use Rattle.watcher.specs.Answer.{firstNumber, tickAnswer, tableTick, tablePlay}
+use Rattle.watcher.specs.Answer.{firstNumber, tickAnswer}
+use Rattle.watcher.specs.inner.Tables.{tableTick, tablePlay}
 use Rattle.table.specs.Refusal.{numberOf, lineOf}
 use Rattle.watcher.proofs.Records.{watch-phases, phases-watch}
-use Rattle.demands.specs.Watching.{recordAfter, Accepted}
+use Rattle.demands.specs.Watching.{recordAfter, CallValid}
 use Rattle.demands.proofs.WatchLaws as Laws
 use Rattle.demands.proofs.WatchLaws.{start-phase}
 use Rattle.demands.proofs.WatchCalls as Calls
 
 -- Numbers 17 and 18 let the record by that the watcher starts with.
-pub start-accepted : (s : ℕ) (rows : List Row) → rulesFit s rows ≡ true → Accepted s rows startWatch
+pub start-accepted : (s : ℕ) (rows : List Row) → rowsValid s rows ≡ true → CallValid s rows startWatch
 start-accepted = Laws.start-accepted
 
-module _ (s : ℕ) (rows : List Row) (watch : Watch) (ok : Accepted s rows watch) (w : List ℕ)
+module _ (s : ℕ) (rows : List Row) (watch : Watch) (ok : CallValid s rows watch) (w : List ℕ)
     (h : AllBelow (letters s) w) where
   -- All rows together, as the system that the search explores (row by row: `rows-follow`).
   pub state-follows : phasesOf (recordAfter s rows watch w)
@@ -45,7 +48,7 @@ module _ (s : ℕ) (rows : List Row) (watch : Watch) (ok : Accepted s rows watch
 
   -- What the watcher made is accepted: number 18 never fires on it, and no tick of a right letter
   -- is refused.
-  pub stays-accepted : Accepted s rows (recordAfter s rows watch w)
+  pub stays-accepted : CallValid s rows (recordAfter s rows watch w)
   stays-accepted = Laws.after-accepted s rows watch w ok h
 
   pub never-refused : (l : ℕ) → l < letters s
@@ -65,13 +68,13 @@ module _ (s : ℕ) (rows : List Row) (watch : Watch) (ok : Accepted s rows watch
   stays-broken b = Laws.after-broken s rows watch w ok h b
 
   -- Codes keep within 1 to Tmax, Lmax and Amax of their rows.
-  pub codes-keep : codesFit rows (map codeOf (phasesOf (recordAfter s rows watch w))) ≡ true
-  codes-keep = codes-fit s rows (phasesOf (recordAfter s rows watch w))
-      (rulesFit-rows s rows (ok .rules)) (stays-accepted .state)
+  pub codes-keep : codesValid rows (map codeOf (phasesOf (recordAfter s rows watch w))) ≡ true
+  codes-keep = codes-valid s rows (phasesOf (recordAfter s rows watch w))
+      (rowsValid-rows s rows (ok .rules)) (stays-accepted .state)
 
 -- Demand 2 in its plain form: "All start waiting", and after every trace from the start each row is
 -- in the phase that the step rules give from waiting.
-pub from-start : (s : ℕ) (rows : List Row) (w : List ℕ) → rulesFit s rows ≡ true
+pub from-start : (s : ℕ) (rows : List Row) (w : List ℕ) → rowsValid s rows ≡ true
     → AllBelow (letters s) w → (i : ℕ) → i < length rows
     → getD (phasesOf (recordAfter s rows startWatch w)) i Waiting
     ≡ run (rowSystem s (getD rows i noRow)) Waiting w
@@ -81,16 +84,16 @@ from-start s rows w rules h i low =
 
 -- Number 18 "in codes": of codes of one byte, the record that they give passes exactly when the
 -- codes do.
-pub codes-accepted : (s : ℕ) (rows : List Row) (codes : List ℕ) → rulesFit s rows ≡ true
+pub codes-accepted : (s : ℕ) (rows : List Row) (codes : List ℕ) → rowsValid s rows ≡ true
     → AllBelow 256 codes
-    → phasesFit rows (phasesOf (watchOf (map phaseOf codes))) ≡ codesFit rows codes
+    → phasesValid rows (phasesOf (watchOf (map phaseOf codes))) ≡ codesValid rows codes
 codes-accepted s rows codes rules low =
-    ap (phasesFit rows) (phases-watch (map phaseOf codes))
-    ∙ sym (codes-phases s rows codes (rulesFit-rows s rows rules) low)
+    ap (phasesValid rows) (phases-watch (map phaseOf codes))
+    ∙ sym (codes-phases s rows codes (rowsValid-rows s rows rules) low)
 
 -- A record's codes determine its phases.
-pub codes-determine : (s : ℕ) (rows : List Row) (one other : Watch) → Accepted s rows one
-    → Accepted s rows other
+pub codes-determine : (s : ℕ) (rows : List Row) (one other : Watch) → CallValid s rows one
+    → CallValid s rows other
     → map codeOf (phasesOf one) ≡ map codeOf (phasesOf other) → one ≡ other
 codes-determine s rows one other p q e =
     sym (watch-phases one) ∙ ap watchOf
@@ -101,7 +104,7 @@ codes-determine s rows one other p q e =
 -- record.
 module _ (s : ℕ) (rows : List Row) (watch : Watch) (l : ℕ) where
   pub first-number : numberOf (tickAnswer s rows watch l .outcome)
-      ≡ firstNumber (rulesFit s rows) (phasesFit rows (phasesOf watch)) (letterFits s l)
+      ≡ firstNumber (rowsValid s rows) (phasesValid rows (phasesOf watch)) (letterValid s l)
   first-number = Laws.answer-number s rows watch l
 
   pub no-line : lineOf (tickAnswer s rows watch l .outcome) ≡ 0
@@ -114,20 +117,20 @@ module _ (s : ℕ) (rows : List Row) (watch : Watch) (l : ℕ) where
 -- The same of the calls with a table value: of one that 17 lets by a tick is that of its rows, and a
 -- trace that is played gives the record after one call for each letter.
 module _ (table : Table) (watch : Watch) where
-  pub tick-as-rows : (l : ℕ) → tableFits table ≡ true
+  pub tick-as-rows : (l : ℕ) → tableValid table ≡ true
       → tableTick table watch l ≡ tickAnswer (table .signals) (rowsOf table) watch l
   tick-as-rows = Calls.tick-as-rows table watch
 
-  pub played : (w : List ℕ) → tableFits table ≡ true
-      → phasesFit (rowsOf table) (phasesOf watch) ≡ true → AllBelow (letters (table .signals)) w
+  pub played : (w : List ℕ) → tableValid table ≡ true
+      → phasesValid (rowsOf table) (phasesOf watch) ≡ true → AllBelow (letters (table .signals)) w
       → tablePlay table watch w
       ≡ record { outcome = Taken; watch = recordAfter (table .signals) (rowsOf table) watch w }
   played = Calls.played table watch
 
   module _ (l : ℕ) where
     pub tick-number : numberOf (tableTick table watch l .outcome)
-        ≡ firstNumber (tableFits table) (phasesFit (rowsOf table) (phasesOf watch))
-        (letterFits (table .signals) l)
+        ≡ firstNumber (tableValid table) (phasesValid (rowsOf table) (phasesOf watch))
+        (letterValid (table .signals) l)
     tick-number = Calls.tick-number table watch l
 
     pub tick-line : lineOf (tableTick table watch l .outcome) ≡ 0
@@ -139,8 +142,8 @@ module _ (table : Table) (watch : Watch) where
 
   module _ (w : List ℕ) where
     pub play-number : numberOf (tablePlay table watch w .outcome)
-        ≡ firstNumber (tableFits table) (phasesFit (rowsOf table) (phasesOf watch))
-        (every (letterFits (table .signals)) w)
+        ≡ firstNumber (tableValid table) (phasesValid (rowsOf table) (phasesOf watch))
+        (every (letterValid (table .signals)) w)
     play-number = Calls.play-number table watch w
 
     pub play-line : lineOf (tablePlay table watch w .outcome) ≡ 0

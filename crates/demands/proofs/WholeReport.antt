@@ -7,7 +7,7 @@ use mathlib.Core.Path.{_≡_, refl}
 use lib.ListN.{length}
 use Rattle.letters.specs.Letter.{bitAt, setOf}
 use Rattle.letters.specs.Lists.{every, some, sameBytes}
-use Rattle.table.specs.Name.{letterRun, allDistinct}
+use Rattle.table.specs.Name.{nameRun, allDistinct}
 use Rattle.text.specs.Bounds.{digits, decimal}
 use Rattle.text.specs.inner.Bounds.{boundOf}
 use Rattle.text.specs.inner.Cut.{lines, split}
@@ -19,11 +19,11 @@ use Rattle.header.specs.inner.Header.{headerNumber, nameShaped, signalsNumber, 
 use Rattle.rows.specs.inner.Row.{fieldOf, fieldsOf, numberAmong, rowFields, rowAnswer}
 use Rattle.reader.specs.inner.File.{rowsFrom, rowsAnswer, bodyAnswer, fileAnswer, readAnswer}
 use Rattle.reader.proofs.Accepted.{accepted-file}
-use Rattle.reader.proofs.Fits.{file-fits}
+use Rattle.reader.proofs.Valid.{file-valid}
 use Rattle.verdict.proofs.Buffer.{written-front}
 use Rattle.search.specs.Lent.{Lent, roomOf}
 use Rattle.report.specs.Report.{signalValues, tickLines, reportLines}
-use Rattle.checker.specs.FileReport.{checkAnswer}
+use Rattle.checker.specs.inner.Computed.{checkAnswer}
 use Rattle.demands.specs.examples.Cases.{P, Q, S, report, delayed}
 use Rattle.demands.specs.examples.Texts.{textP, textNotC, textQ, textS, textDelayed, fileOf}
 use Rattle.demands.specs.examples.Texts.{tableOf, ReadAs, wholeOutput}
@@ -34,7 +34,7 @@ pub boards-read : ReadAs (textP ∷ []) (P ∷ []) × ReadAs (textQ ∷ []) (Q �
     × ReadAs (textP ∷ textNotC ∷ []) report
 unfolding readAnswer ended lines fileAnswer headerNumber bodyAnswer split signalsAnswer
     signalsNumber nameShaped nameOf allDistinct rowsAnswer rowsFrom rowAnswer count fieldsOf fieldOf
-    numberAmong rowFields boundOf judge deep conditionOf reads digitAt nameAt isAt letterRun place
+    numberAmong rowFields boundOf judge deep conditionOf reads digitAt nameAt isAt nameRun place
     sameBytes bitAt setOf every some
 boards-read = (
   record { accepted-is = refl; signals = refl; count = refl; rows-are = refl },
@@ -50,7 +50,7 @@ unfolding checkAnswer reportLines tickLines signalValues decimal digits bitAt
 whole-report lent room short =
     let file = boards-read .4 in
     let table = tableOf (textP ∷ textNotC ∷ []) in
-    let fits = file-fits _ table (accepted-file _ table (file .accepted-is)) in
+    let fits = file-valid _ table (accepted-file _ table (file .accepted-is)) in
     let searched = report-trapped table lent fits (file .signals) short (file .rows-are) room in
     rw (
       file .accepted-is,

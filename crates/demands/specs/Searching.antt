@@ -5,13 +5,13 @@ use mathlib.Core.List.{List, [], _∷_, _++_}
 use mathlib.Core.Logic.{_⊎_}
 use mathlib.Core.Path.{_≡_}
 use lib.ListN.{length, getD}
-use Rattle.table.specs.Valid.{tableFits, rowsOf}
+use Rattle.table.specs.Valid.{tableValid, rowsOf}
 use Rattle.table.specs.declared.Table.{Table}
 use Rattle.traces.specs.System.{System}
 use Rattle.traces.specs.Trace.{AllBelow, run, Unbroken, Reached}
 use Rattle.traces.specs.Order.{Earlier, NotAfter}
 use Rattle.traces.specs.Doomed.{Doomed, Lost}
-use Rattle.traces.specs.Verdict.{ReachedMany, ReachedCount}
+use Rattle.traces.specs.Count.{ReachedMany, ReachedCount}
 use Rattle.letters.specs.Lists.{ZeroFrom}
 use Rattle.step.specs.declared.Phase.{Phase}
 use Rattle.step.specs.Tick.{startPhases}
@@ -48,7 +48,7 @@ pub record CanGoOn (X : System) : Type 0 where
 -- "An accepted table is any table value that number 17 lets by"; "the states fit if there are no
 -- more different ones than the room": n of them.
 pub record Fit (table : Table) (lent : Lent) (n : ℕ) : Type 0 where
-  pub passes : tableFits table ≡ true
+  pub passes : tableValid table ≡ true
   pub count : ReachedCount (systemOf table) n
   pub room : n ≤ roomOf lent
 
@@ -116,9 +116,9 @@ pub record Entered (table : Table) (n : ℕ) (lent held : Lent) : Type 0 where
 
 -- "The search tests 17, 20, 21": all that a call can answer, and what each answer says.
 pub data RightAnswer (table : Table) (lent : Lent) : Searched → Type 0 where
-  is17 : tableFits table ≡ false
+  is17 : tableValid table ≡ false
       → RightAnswer table lent (record { found = refusedFound 17; lent = lent })
-  is20 : tableFits table ≡ true → ReachedMany (systemOf table) (suc (roomOf lent))
+  is20 : tableValid table ≡ true → ReachedMany (systemOf table) (suc (roomOf lent))
       → RightAnswer table lent (record { found = refusedFound 20; lent = cleared lent })
   is21 : {n k : ℕ} {w : List ℕ} {held : Lent} → Fit table lent n
       → EarliestDead (systemOf table) w k

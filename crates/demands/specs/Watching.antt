@@ -3,9 +3,9 @@ use Prim.Native.Nat.{ℕ}
 use mathlib.Core.Bool.{true}
 use mathlib.Core.List.{List, [], _∷_}
 use mathlib.Core.Path.{_≡_}
-use Rattle.table.specs.Valid.{rulesFit}
+use Rattle.table.specs.Valid.{rowsValid}
 use Rattle.table.specs.declared.Row.{Row}
-use Rattle.step.specs.Fits.{phasesFit}
+use Rattle.step.specs.Valid.{phasesValid}
 use Rattle.watcher.specs.declared.Watch.{Watch}
 use Rattle.watcher.specs.Watch.{phasesOf}
 use Rattle.watcher.specs.Answer.{tickAnswer}
@@ -16,6 +16,6 @@ recordAfter s rows watch [] = watch
 recordAfter s rows watch (l ∷ w) = recordAfter s rows (tickAnswer s rows watch l .watch) w
 
 -- Numbers 17 and 18 let the signal count, the rows and the record by.
-pub record Accepted (s : ℕ) (rows : List Row) (watch : Watch) : Type 0 where
-  pub rules : rulesFit s rows ≡ true
-  pub state : phasesFit rows (phasesOf watch) ≡ true
+pub record CallValid (s : ℕ) (rows : List Row) (watch : Watch) : Type 0 where
+  pub rules : rowsValid s rows ≡ true
+  pub state : phasesValid rows (phasesOf watch) ≡ true

@@ -4,13 +4,12 @@ use native.Mathlib.Omega.{arith}
 use mathlib.Core.Bool.{Bool, true, false, _&&_, cond, and-true, and-false}
 use mathlib.Core.List.{List}
 use mathlib.Core.Path.{_≡_, refl, ap, _∙_}
-use borrow.Author.Tests.{eq-eqb, ne-eqb, le-leb, lt-leb, leb-true}
+use borrow.Author.Tests.{eq-eqb, ne-eqb, le-leb, lt-leb}
 use lib.Dec.{eqb, leb}
 use lib.ListN.{length, getD, take, drop, drop-of-length-le, length-drop}
 use lib.Seq.{drop-cons, take-all}
 use Rattle.letters.specs.Lists.{every, sameBytes}
-use Rattle.letters.proofs.Lists.{and-left, and-right}
-use Rattle.table.specs.Name.{isLetter}
+use Rattle.table.specs.Name.{isLowercase}
 use Rattle.header.specs.Header.{isDigit16, PNP, version1}
 use Rattle.header.specs.inner.Header.{headerNumber, nameShaped}
 use Rattle.text.proofs.Parts.{rest-whole}
@@ -76,16 +75,11 @@ module _ (w : List ℕ) where
   unfolding nameShaped
   name-long h = rw (lt-leb (length w) 8 h, and-false (leb 1 (length w)))
 
-  pub name-other : every isLetter w ≡ false → nameShaped w ≡ false
+  pub name-other : every isLowercase w ≡ false → nameShaped w ≡ false
   unfolding nameShaped
   name-other h = rw (h, and-false (leb 1 (length w) && leb (length w) 8))
 
-  pub name-is : (length w ≡ 0 → ⊥) → length w ≤ 8 → every isLetter w ≡ true
+  pub name-is : (length w ≡ 0 → ⊥) → length w ≤ 8 → every isLowercase w ≡ true
       → nameShaped w ≡ true
   unfolding nameShaped
   name-is some few h = rw (le-leb 1 (length w) (omega arith), le-leb (length w) 8 few, h)
-
-pub name-short : (w : List ℕ) → nameShaped w ≡ true → length w ≤ 8
-unfolding nameShaped
-name-short w h = leb-true (length w) 8
-    (and-right (leb 1 (length w)) _ (and-left (leb 1 (length w) && leb (length w) 8) _ h))

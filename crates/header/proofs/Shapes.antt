@@ -12,7 +12,7 @@ use Rattle.letters.specs.Lists.{every, sameBytes}
 use Rattle.letters.proofs.Lists.{and-left, and-right, sameBytes-true, sameBytes-false}
 use Rattle.letters.proofs.Lists.{sameBytes-refl}
 use Rattle.table.specs.Limits.{mostSignals}
-use Rattle.table.specs.Name.{isLetter, allDistinct}
+use Rattle.table.specs.Name.{isLowercase, allDistinct}
 use Rattle.text.specs.Lines.{LF, space, joined, count, All, none, and, Free}
 use Rattle.text.specs.inner.Cut.{split}
 use Rattle.text.proofs.Joins.{split-joined, joined-split, joined-free, passing-free}
@@ -79,8 +79,8 @@ pub data Line1 (line : List ℕ) : Type 0 where
   other : (version : List ℕ) → IsHeader line version → (version ≡ version1 → ⊥) → Line1 line
   misshapen : ((version : List ℕ) → IsHeader line version → ⊥) → Line1 line
 
-pub line1 : (line : List ℕ) → Line1 line
-line1 line = go (shaped line) refl (sameBytes (drop 4 line) version1) refl
+pub line1-found : (line : List ℕ) → Line1 line
+line1-found line = go (shaped line) refl (sameBytes (drop 4 line) version1) refl
   where
     go : (t : Bool) → shaped line ≡ t → (u : Bool) → sameBytes (drop 4 line) version1 ≡ u
         → Line1 line
@@ -103,11 +103,11 @@ unfolding nameShaped
 shaped-name w h =
     let some = leb 1 (length w) in
     let few = leb (length w) 8 in
-    let size = and-left (some && few) (every isLetter w) h in
+    let size = and-left (some && few) (every isLowercase w) h in
     record {
       some = leb-true 1 (length w) (and-left some few size);
       few = leb-true (length w) 8 (and-right some few size);
-      letters = and-right (some && few) (every isLetter w) h;
+      letters = and-right (some && few) (every isLowercase w) h;
     }
 
 name-shaped : (w : List ℕ) → IsName w → nameShaped w ≡ true
@@ -126,18 +126,18 @@ unfolding every
 names-shaped names none = refl
 names-shaped names (and {a} {more} h all) = rw (name-shaped a h) (names-shaped more all)
 
-names-free : (b : ℕ) → isLetter b ≡ false → (names : List (List ℕ)) → All IsName names
+names-free : (b : ℕ) → isLowercase b ≡ false → (names : List (List ℕ)) → All IsName names
     → Free b names
 names-free b e names none = none
 names-free b e names (and {a} {more} h all) =
-    and (passing-free isLetter b e a (h .letters)) (names-free b e more all)
+    and (passing-free isLowercase b e a (h .letters)) (names-free b e more all)
 
 -- Line 2.
 abbrev pub signalsRead : List (List ℕ) → Signals
 signalsRead names = record { number = 0; count = length names; names = namesFrom names }
 
 module _ (line : List ℕ) (names : List (List ℕ)) (signals : IsSignals line names) where
-  words-free : (b : ℕ) → isLetter b ≡ false → count b signalsWord ≡ 0 → Free b (signalsWord ∷ names)
+  words-free : (b : ℕ) → isLowercase b ≡ false → count b signalsWord ≡ 0 → Free b (signalsWord ∷ names)
   words-free b e none-in = and none-in (names-free b e names (signals .named))
 
   signals-split : split space line ≡ signalsWord ∷ names
@@ -219,8 +219,8 @@ pub data Line2 (line : List ℕ) : Type 0 where
   signals : (names : List (List ℕ)) → IsSignals line names → Line2 line
   misshapen : ((names : List (List ℕ)) → IsSignals line names → ⊥) → Line2 line
 
-pub line2 : (line : List ℕ) → Line2 line
-line2 line = go (wordsShaped (split space line)) refl
+pub line2-found : (line : List ℕ) → Line2 line
+line2-found line = go (wordsShaped (split space line)) refl
   where
     go : (t : Bool) → wordsShaped (split space line) ≡ t → Line2 line
     go true e = signals (drop 1 (split space line)) (shaped-signals line e)

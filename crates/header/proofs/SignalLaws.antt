@@ -6,23 +6,25 @@ use native.Mathlib.Omega.{arith}
 use mathlib.Core.Bool.{Bool, true, false, _&&_, cond, and-false}
 use mathlib.Core.List.{List, [], _∷_, _++_, map, map-append, append-assoc, append-nil}
 use mathlib.Core.Path.{_≡_, refl, sym, ap, ap₂, _∙_}
-use borrow.Author.Tests.{eq-eqb, ne-eqb, le-leb, lt-leb, lt-ltb, le-ltb}
+use borrow.Author.Tests.{eq-eqb, ne-eqb, lt-ltb, le-ltb}
 use lib.Dec.{leb, ltb, eqb·suc-zero}
 use lib.ListN.{length, take, drop, set, replicate, length-append, length-map, drop-of-length-le}
 use lib.Seq.{drop-cons, drop-drop, drop-length, take-append-le, set-at, take-append-add}
 use lib.Seq.{drop-append-seam, append-snoc, take-at}
 use Rattle.letters.specs.Lists.{every, sameBytes}
-use Rattle.letters.proofs.Lists.{every-append, sameBytes-refl}
+use Rattle.letters.proofs.Lists.{every-append}
 use Rattle.table.specs.Limits.{mostSignals}
 use Rattle.table.specs.Name.{allDistinct}
 use Rattle.table.specs.declared.Name.{Name}
-use Rattle.text.specs.Lines.{count, space}
+use Rattle.text.specs.Lines.{count, space, joined}
 use Rattle.text.specs.inner.Cut.{split, front, after}
 use Rattle.text.proofs.Splits.{front-whole, split-front, split-cons, front-after}
 use Rattle.conditions.specs.Condition.{nameOf}
-use Rattle.header.specs.Header.{signalsWord, noName, namesFrom}
+use Rattle.header.specs.Header.{IsSignals, signalsWord, noName, namesFrom}
 use Rattle.header.specs.inner.Header.{nameShaped, signalsNumber, signalsRefused}
 use Rattle.header.specs.inner.Header.{signalsAnswer}
+use Rattle.text.proofs.Joins.{joined-split}
+use Rattle.header.proofs.Shapes.{shaped-names, signals-many, signals-twice, signals-read}
 use Rattle.header.specs.inner.Gathering.{nameAdded, namesAnswer}
 
 -- The words after a word that has ended: nothing is left, or a separator and words.
@@ -169,48 +171,13 @@ module _ (l : List ℕ) (first : front space l ≡ signalsWord) where
   unfolding signalsNumber sameBytes
   answer-none e = rw (words-are, e) (answer-refused (signalsWord ∷ []) 5 refl)
 
-  module _ (right : every nameShaped ws ≡ true) where
-    pub answer-many : mostSignals < length ws → signalsAnswer (split space l) ≡ signalsRefused 7
-    unfolding signalsNumber
-    answer-many h =
-        rw words-are (answer-refused (signalsWord ∷ ws) 6
-        (rw (
-          right,
-          sameBytes-refl signalsWord,
-          le-leb 1 (length ws) (omega arith),
-          lt-leb
-              (length ws) 6 h,
-        )))
-
-    module _ (some : 1 ≤ length ws) (few : length ws ≤ mostSignals) where
-      pub answer-twice : allDistinct (map nameOf ws) ≡ false
-          → signalsAnswer (split space l) ≡ signalsRefused 8
-      unfolding signalsNumber
-      answer-twice e =
-          rw words-are (answer-refused (signalsWord ∷ ws) 7
-          (rw (
-            right,
-            sameBytes-refl signalsWord,
-            le-leb 1 (length ws) some,
-            le-leb (length ws) 6
-                few,
-            e,
-          )))
-
-      pub answer-accepted : allDistinct (map nameOf ws) ≡ true
-          → signalsAnswer (split space l)
-          ≡ record { number = 0; count = length ws; names = namesFrom ws }
-      unfolding signalsAnswer signalsNumber
-      answer-accepted e =
-          rw (
-            words-are,
-            right,
-            sameBytes-refl signalsWord,
-            le-leb 1 (length ws) some,
-            le-leb
-                (length ws) 6 few,
-            e,
-          )
+  module _ (right : every nameShaped ws ≡ true) (some : 1 ≤ length ws) where
+    pub line-shaped : IsSignals l ws
+    line-shaped = record {
+      line-is = sym (joined-split space l) ∙ ap (joined space) words-are;
+      some = some;
+      named = shaped-names ws right;
+    }
 
 -- The loop over the words.
 pub naming-starts : (line : List ℕ) → Naming line [] (replicate mostSignals noName) 0 7
@@ -266,8 +233,12 @@ module _ (line : List ℕ) (first : front space line ≡ signalsWord) (done : Li
   ends-none : n ≡ 0 → signalsAnswer (split space line) ≡ signalsRefused 6
   ends-none e = answer-none line first (all ∙ length-none done (p .many ∙ e))
 
+  module _ (some : n ≡ 0 → ⊥) where
+    shaped : IsSignals line done
+    shaped = rw (← all) (line-shaped line first all-right (rw all-many (omega arith)))
+
   ends-many : mostSignals < n → signalsAnswer (split space line) ≡ signalsRefused 7
-  ends-many h = answer-many line first all-right (rw all-many h)
+  ends-many h = signals-many line done (shaped (λ e. omega arith)) (rw (p .many) h)
 
   module _ (some : n ≡ 0 → ⊥) (few : n ≤ mostSignals) where
     kept-all : names ≡ namesFrom done
@@ -276,22 +247,19 @@ module _ (line : List ℕ) (first : front space line ≡ signalsWord) (done : Li
     kept-names : take n names ≡ map nameOf done
     kept-names = rw kept-all (take-at (map nameOf done) _ n (length-map done nameOf ∙ p .many))
 
-    low : 1 ≤ length (wordsAfter space (drop 7 line))
-    low = rw all-many (omega arith)
-
-    high : length (wordsAfter space (drop 7 line)) ≤ mostSignals
-    high = rw all-many few
+    high : length done ≤ mostSignals
+    high = rw (p .many) few
 
     ends-twice : allDistinct (take n names) ≡ false
         → signalsAnswer (split space line) ≡ signalsRefused 8
-    ends-twice e = answer-twice line first all-right low high (rw (all, ← kept-names) e)
+    ends-twice e = signals-twice line done (shaped some) high (rw (← kept-names) e)
 
     ends-accepted : allDistinct (take n names) ≡ true
         → signalsAnswer (split space line) ≡ record { number = 0; count = n; names = names }
     ends-accepted e =
-        answer-accepted line first all-right low high (rw (all, ← kept-names) e)
-        ∙ ap₂ (λ (k : ℕ) (l : List Name). record { number = 0; count = k; names = l }) all-many
-        (ap namesFrom all ∙ sym kept-all)
+        signals-read line done (shaped some) high (rw (← kept-names) e)
+        ∙ ap₂ (λ (k : ℕ) (l : List Name). record { number = 0; count = k; names = l }) (p .many)
+        (sym kept-all)
 
   -- What the names come to.
   pub ends-answer : signalsAnswer (split space line) ≡ namesAnswer names n

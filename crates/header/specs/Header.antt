@@ -7,7 +7,7 @@ use mathlib.Core.Path.{_≡_}
 use lib.Dec.{leb}
 use lib.ListN.{length, replicate}
 use Rattle.letters.specs.Lists.{every}
-use Rattle.table.specs.Limits.{mostSignals}
+use Rattle.table.specs.Limits.{mostSignals, nameLength}
 use Rattle.table.specs.declared.Name.{Name}
 use Rattle.text.specs.Bytes.{bytes}
 use Rattle.text.specs.Lines.{space, joined, All}
@@ -39,7 +39,7 @@ pub record IsSignals (line : List ℕ) (names : List (List ℕ)) : Type 0 where
 
 -- The names as a table value keeps them: unused ones are 0.
 abbrev pub noName : Name
-noName = record { letters = replicate 8 0 }
+noName = record { chars = replicate nameLength 0 }
 
 abbrev pub namesFrom : List (List ℕ) → List Name
 namesFrom names = map nameOf names ++ replicate (mostSignals - length names) noName

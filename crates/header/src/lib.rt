@@ -1,7 +1,7 @@
 // Reading lines 1 and 2: the version, and the names of the signals. specs/Header.antt says what is
 // right, specs/inner/Header.antt which of 4 to 8 other bytes get.
 use table::MOST_SIGNALS;
-use table::NAME_LETTERS;
+use table::NAME_CHARS;
 use table::Name;
 ghost use mathlib.Core.Path.{_≡_};
 ghost use Rattle.text.specs.Lines.{space};
@@ -56,12 +56,12 @@ fn is_name(s: &[u8]) -> bool
     if s.len() == 0 {
         return false;
     }
-    if NAME_LETTERS < s.len() {
+    if NAME_CHARS < s.len() {
         return false;
     }
     let mut i: usize = 0;
     while i < s.len() {
-        if !table::names::is_letter(s[i]) {
+        if !table::names::is_lowercase(s[i]) {
             return false;
         }
         i += 1;
@@ -73,7 +73,7 @@ fn turned_down(number: u8) -> Signals
     ensures { λ r. ⌜ r ≡ signalsRefused number ⌝ }
 {
     let name = Name {
-        letters: [0u8; NAME_LETTERS],
+        chars: [0u8; NAME_CHARS],
     };
     Signals {
         number,
@@ -132,7 +132,7 @@ pub fn read_signals(line: &[u8]) -> Signals
         return turned_down(6);
     }
     let none = Name {
-        letters: [0u8; NAME_LETTERS],
+        chars: [0u8; NAME_CHARS],
     };
     let mut kept = Kept {
         names: [none; MOST_SIGNALS],
@@ -145,7 +145,7 @@ pub fn read_signals(line: &[u8]) -> Signals
         if !is_name(&line[from..end]) {
             return turned_down(6);
         }
-        let name = conditions::name_of(&line[from..end], NAME_LETTERS);
+        let name = conditions::name_of(&line[from..end], NAME_CHARS);
         kept = with_name(kept, n, name);
         n += 1;
         at = end;

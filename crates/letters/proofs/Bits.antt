@@ -9,7 +9,7 @@ use mathlib.Core.Path.{_≡_, refl, sym, ap, _∙_}
 use borrow.Author.Tests.{lt-ltb, ltb-true, eqb-false}
 use lib.Dec.{eqb, lit<}
 use lib.Pow.{pow-pos, pow-mono, shr-shr, shl-exact}
-use Rattle.letters.specs.Letter.{bitAt, bit, inSet, letters, setFits, setBits}
+use Rattle.letters.specs.Letter.{bitAt, bit, inSet, letters, setValid, setBits}
 
 -- Bit 0, and the bits above it.
 pub bit-zero : (x : ℕ) → bitAt x 0 ≡ eqb (x % 2) 1
@@ -71,10 +71,10 @@ bits-below x n none =
     rw one-mul at (div-lt-iff-lt-mul {x = x} {y = 1} (pow-pos n) .0 (omega arith))
 
 -- A set fits where no letter from 2^s on is in it, and only there.
-pub setFits-if : (s set : ℕ) → setFits s set ≡ true
+pub setValid-if : (s set : ℕ) → setValid s set ≡ true
     → (l : ℕ) → letters s ≤ l → inSet set l ≡ false
-setFits-if s set fits l h = bit-high set (letters s) l (ltb-true set (2 ^ letters s) fits) h
+setValid-if s set fits l h = bit-high set (letters s) l (ltb-true set (2 ^ letters s) fits) h
 
-pub setFits-only-if : (s set : ℕ) → ((l : ℕ) → letters s ≤ l → inSet set l ≡ false)
-    → setFits s set ≡ true
-setFits-only-if s set none = lt-ltb set (2 ^ letters s) (bits-below set (letters s) none)
+pub setValid-only-if : (s set : ℕ) → ((l : ℕ) → letters s ≤ l → inSet set l ≡ false)
+    → setValid s set ≡ true
+setValid-only-if s set none = lt-ltb set (2 ^ letters s) (bits-below set (letters s) none)

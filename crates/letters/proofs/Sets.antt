@@ -10,7 +10,8 @@ use mathlib.Core.Path.{_≡_, refl, sym, ap, _∙_}
 use lib.Dec.{eqb}
 use lib.Pow.{pow-mono, pow-pos}
 use lib.Bits.{bitAnd, bitOr, or-shr, or-mod, and-shr, and-mod, or-lt, and-lt, and-mask, and-le-l}
-use Rattle.letters.specs.Letter.{bitAt, inSet, setOf, bit, without, setBits}
+use Rattle.letters.specs.Letter.{bitAt, inSet, setOf, bit, setBits}
+use Rattle.letters.specs.inner.Least.{without}
 use Rattle.letters.proofs.Bits.{bit-zero, bit-suc, bit-place, bit-lt, eqb-bit, bit-eqb}
 
 or-bits : (x y : ℕ) → x < 2 → y < 2 → eqb (bitOr x y) 1 ≡ (eqb x 1 || eqb y 1)
@@ -139,12 +140,6 @@ module _ (n : ℕ) (p q : ℕ → Bool) where
       (and-lt n (setOf n p) (setOf n q) (setOf-lt n p) (setOf-lt n q))
       (setOf-lt n (λ l. p l && q l))
       λ l h. rw (in-and, in-setOf n l p h, in-setOf n l q h, in-setOf n l (λ i. p i && q i) h)
-
-  pub setOf-not : 2 ^ n - 1 - setOf n p ≡ setOf n (λ l. not (p l))
-  setOf-not =
-      others-is n (setOf n p) (setOf-lt n p)
-      ∙ setOf-ext n (λ l. not (bitAt (setOf n p) l)) (λ l. not (p l))
-      (λ l h. ap not (in-setOf n l p h))
 
 pub setOf-false : (n : ℕ) → setOf n (λ l. false) ≡ 0
 unfolding setOf

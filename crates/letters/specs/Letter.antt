@@ -1,6 +1,6 @@
 -- Letters and sets of letters.
 use Prim.Native.Nat.{ℕ, zero, suc, _+_, _*_, _/_, _%_, _^_, min}
-use mathlib.Core.Bool.{Bool, true, false, _&&_, not, cond}
+use mathlib.Core.Bool.{Bool, true, false}
 use lib.Dec.{eqb, ltb}
 
 -- Whether bit k of the number x is 1.
@@ -16,8 +16,8 @@ signalOn letter k = bitAt letter k
 abbrev pub letters : ℕ → ℕ
 letters s = 2 ^ s
 
-abbrev pub letterFits : ℕ → ℕ → Bool
-letterFits s letter = ltb letter (letters s)
+abbrev pub letterValid : ℕ → ℕ → Bool
+letterValid s letter = ltb letter (letters s)
 
 -- "A row's six conditions are kept as six sets of letters": a condition holds at the letters of its
 -- set.
@@ -25,8 +25,8 @@ abbrev pub inSet : ℕ → ℕ → Bool
 inSet set letter = bitAt set letter
 
 -- No letter from 2^s on is in the set.
-abbrev pub setFits : ℕ → ℕ → Bool
-setFits s set = ltb set (2 ^ letters s)
+abbrev pub setValid : ℕ → ℕ → Bool
+setValid s set = ltb set (2 ^ letters s)
 
 -- A set is kept as a number of so many bits.
 abbrev pub setBits : ℕ
@@ -44,16 +44,3 @@ bit false = 0
 unfoldable pub setOf : ℕ → (ℕ → Bool) → ℕ
 setOf zero test = 0
 setOf (suc n) test = bit (test 0) + 2 * setOf n (λ l. test (suc l))
-
--- The letters of a set that are not in another.
-abbrev pub without : ℕ → ℕ → ℕ
-without set off = setOf setBits (λ letter. inSet set letter && not (inSet off letter))
-
--- The first of n letters from l on that is in the set; the letter after them if none is.
-unfoldable pub leastFrom : ℕ → ℕ → ℕ → ℕ
-leastFrom set zero l = l
-leastFrom set (suc n) l = cond (inSet set l) l (leastFrom set n (suc l))
-
--- The least letter of a set; `setBits` if it has none.
-unfoldable pub leastIn : ℕ → ℕ
-leastIn set = leastFrom set setBits 0

@@ -2,3 +2,4 @@
 -- the definitions above them use.
 pub mod Lists
 pub mod Letter
+pub mod inner

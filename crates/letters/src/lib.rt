@@ -4,8 +4,8 @@ ghost use mathlib.Core.Path.{_≡_};
 ghost use mathlib.Core.Bool.{true, _&&_, not};
 ghost use lib.Dec.{eqb};
 ghost use Rattle.letters.specs.Lists.{within};
-ghost use Rattle.letters.specs.Letter.{signalOn, inSet, letterFits, setFits, width, setOf};
-ghost use Rattle.letters.specs.Letter.{leastIn, without};
+ghost use Rattle.letters.specs.Letter.{signalOn, inSet, letterValid, setValid, width, setOf};
+ghost use Rattle.letters.specs.inner.Least.{leastIn, without};
 
 // The bits of a set, as specs/Letter.antt has them, and the signals that have so many letters.
 pub const SET_BITS: u8 = 64;
@@ -37,8 +37,8 @@ pub fn contains(set: u64, letter: u8) -> bool
 }
 
 // Whether a letter is one of those that so many signals have.
-pub fn letter_fits(signals: u8, letter: u8) -> bool
-    ensures { λ r. ⌜ r ≡ letterFits signals letter ⌝ }
+pub fn letter_valid(signals: u8, letter: u8) -> bool
+    ensures { λ r. ⌜ r ≡ letterValid signals letter ⌝ }
 {
     if signals < LETTER_BITS {
         (letter as u64) < 1u64 << signals
@@ -48,8 +48,8 @@ pub fn letter_fits(signals: u8, letter: u8) -> bool
 }
 
 // Whether a set has only letters that so many signals have.
-pub fn set_fits(signals: u8, set: u64) -> bool
-    ensures { λ r. ⌜ r ≡ setFits signals set ⌝ }
+pub fn set_valid(signals: u8, set: u64) -> bool
+    ensures { λ r. ⌜ r ≡ setValid signals set ⌝ }
 {
     if signals < SET_SIGNALS {
         set < 1u64 << (1u64 << signals)

@@ -22,33 +22,33 @@ use Rattle.reader.proofs.Only.{read-only}
 use Rattle.reader.proofs.Found.{read-answered}
 
 -- A right answer is a table, that of the file, or a refusal, by one of 1 to 16, with a small line.
-pub data FileAnswer (bytes : List ℕ) (r : Reading) : Type 0 where
-  taken : (table : Table) → IsFile bytes table → r ≡ accepted table → FileAnswer bytes r
+pub data Decided (bytes : List ℕ) (r : Reading) : Type 0 where
+  taken : (table : Table) → IsFile bytes table → r ≡ accepted table → Decided bytes r
   turned : (number line : ℕ) → 1 ≤ number → number ≤ 16 → line < 100
-      → r ≡ refusedFile number line → FileAnswer bytes r
+      → r ≡ refusedFile number line → Decided bytes r
 
-right-answer : (bytes : List ℕ) (r : Reading) → RightReading bytes r → FileAnswer bytes r
-right-answer bytes r (is1 e) = turned 1 0 (omega arith) (omega arith) (omega arith) refl
-right-answer bytes r (is2 h) = turned 2 0 (omega arith) (omega arith) (omega arith) refl
-right-answer bytes r (is3 before last e other few) =
+right-decided : (bytes : List ℕ) (r : Reading) → RightReading bytes r → Decided bytes r
+right-decided bytes r (is1 e) = turned 1 0 (omega arith) (omega arith) (omega arith) refl
+right-decided bytes r (is2 h) = turned 2 0 (omega arith) (omega arith) (omega arith) refl
+right-decided bytes r (is3 before last e other few) =
     turned 3 0 (omega arith) (omega arith) (omega arith) refl
-right-answer bytes r (is4 l h) = turned 4 1 (omega arith) (omega arith) (omega arith) refl
-right-answer bytes r (is5 l h other) = turned 5 1 (omega arith) (omega arith) (omega arith) refl
-right-answer bytes r (is6missing l) = turned 6 2 (omega arith) (omega arith) (omega arith) refl
-right-answer bytes r (is6 l h) = turned 6 2 (omega arith) (omega arith) (omega arith) refl
-right-answer bytes r (is7 n many) = turned 7 2 (omega arith) (omega arith) (omega arith) refl
-right-answer bytes r (is8 n few twice) = turned 8 2 (omega arith) (omega arith) (omega arith) refl
-right-answer bytes r (is9 line rest b are full) =
+right-decided bytes r (is4 l h) = turned 4 1 (omega arith) (omega arith) (omega arith) refl
+right-decided bytes r (is5 l h other) = turned 5 1 (omega arith) (omega arith) (omega arith) refl
+right-decided bytes r (is6missing l) = turned 6 2 (omega arith) (omega arith) (omega arith) refl
+right-decided bytes r (is6 l h) = turned 6 2 (omega arith) (omega arith) (omega arith) refl
+right-decided bytes r (is7 n many) = turned 7 2 (omega arith) (omega arith) (omega arith) refl
+right-decided bytes r (is8 n few twice) = turned 8 2 (omega arith) (omega arith) (omega arith) refl
+right-decided bytes r (is9 line rest b are full) =
     turned 9 (mostRows + 3) (omega arith) (omega arith) (omega arith) refl
-right-answer bytes r (isFault {names} {rules} {number} line rest b are low f) =
+right-decided bytes r (isFault {names} {rules} {number} line rest b are low f) =
     let among = fault-among (map nameOf names) (width (length names)) line number f in
     turned number (length rules + 3) (omega (arith, among .0)) (omega (arith, among .1))
     (omega arith) refl
-right-answer bytes r (is16 b) = turned 16 3 (omega arith) (omega arith) (omega arith) refl
-right-answer bytes r (isTable {table} f) = taken table f refl
+right-decided bytes r (is16 b) = turned 16 3 (omega arith) (omega arith) (omega arith) refl
+right-decided bytes r (isTable {table} f) = taken table f refl
 
-pub file-answer : (bytes : List ℕ) → FileAnswer bytes (readAnswer bytes)
-file-answer bytes = right-answer bytes (readAnswer bytes) (read-answered bytes)
+pub read-decided : (bytes : List ℕ) → Decided bytes (readAnswer bytes)
+read-decided bytes = right-decided bytes (readAnswer bytes) (read-answered bytes)
 
 -- Which table.
 abbrev isAccepted : Outcome → Bool
@@ -57,9 +57,9 @@ isAccepted (Refused refusal) = false
 
 module _ (bytes : List ℕ) (table : Table) where
   pub accepted-file : readAnswer bytes ≡ accepted table → IsFile bytes table
-  accepted-file e = go (file-answer bytes)
+  accepted-file e = go (read-decided bytes)
     where
-      go : FileAnswer bytes (readAnswer bytes) → IsFile bytes table
+      go : Decided bytes (readAnswer bytes) → IsFile bytes table
       go (taken other f same) =
           subst (IsFile bytes) (ap (λ (r : Reading). r .table) (sym same ∙ e)) f
       go (turned number line one small low same) =

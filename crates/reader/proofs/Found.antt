@@ -16,11 +16,11 @@ use Rattle.text.specs.inner.Cut.{lines}
 use Rattle.text.proofs.Joins.{ended-lines, lines-free, lines-some}
 use Rattle.conditions.specs.Condition.{nameOf}
 use Rattle.header.specs.Header.{PNP, version1}
-use Rattle.header.proofs.Shapes.{Line1, first, other, misshapen, line1, Line2, signals}
-use Rattle.header.proofs.Shapes.{misshapen as misshapen2, line2}
+use Rattle.header.proofs.Shapes.{Line1, first, other, misshapen, line1-found, Line2, signals}
+use Rattle.header.proofs.Shapes.{misshapen as misshapen2, line2-found}
 use Rattle.header.proofs.SignalLaws.{length-none}
 use Rattle.rows.specs.Row.{RowFault}
-use Rattle.rows.proofs.Rules.{RowFound, isRow, noRow, row-found}
+use Rattle.rows.proofs.Rules.{RowFound, aRow, aFault, row-found}
 use Rattle.reader.specs.Grammar.{AreLines, HasNames, HasHeader, none, and, AreRows}
 use Rattle.reader.specs.Right.{RightReading, is1, is2, is3, is4, is5, is6missing, is6, is7}
 use Rattle.reader.specs.Right.{is8, is9, isFault, is16, isTable}
@@ -47,12 +47,12 @@ rows-found names (suc k) (line ∷ rest) =
   where
     go : RowFound (map nameOf names) (width (length names)) line → RowsFound names k rest
         → RowsFound names (suc k) (line ∷ rest)
-    go (noRow number f) later = one [] [] line rest number refl none (omega arith) f
-    go (isRow row r) (all rows are few) = all (row ∷ rows) (and r are) (omega arith)
-    go (isRow row r) (one before rows next more number e are low f) =
+    go (aFault number f) later = one [] [] line rest number refl none (omega arith) f
+    go (aRow row r) (all rows are few) = all (row ∷ rows) (and r are) (omega arith)
+    go (aRow row r) (one before rows next more number e are low f) =
         one (line ∷ before) (row ∷ rows) next more number (ap (_∷_ line) e) (and r are)
         (omega arith) f
-    go (isRow row r) (over before rows next more e are full) =
+    go (aRow row r) (over before rows next more e are full) =
         over (line ∷ before) (row ∷ rows) next more (ap (_∷_ line) e) (and r are) (ap suc full)
 
 -- The last byte.
@@ -103,7 +103,7 @@ module _ (bytes : List ℕ) where
 
   body-found : (body : List (List ℕ)) → AreLines bytes ((PNP ++ version1) ∷ body) → Answer
   body-found [] l = (_, is6missing l)
-  body-found (line ∷ rest) l = go (line2 line)
+  body-found (line ∷ rest) l = go (line2-found line)
     where
       go : Line2 line → Answer
       go (misshapen2 h) = (_, is6 l h)
@@ -112,7 +112,7 @@ module _ (bytes : List ℕ) where
 
   lines-found : (all : List (List ℕ)) → AreLines bytes all → Answer
   lines-found [] l = absurd (let z = l .some in omega arith)
-  lines-found (line ∷ rest) l = go (line1 line)
+  lines-found (line ∷ rest) l = go (line1-found line)
     where
       go : Line1 line → Answer
       go (misshapen h) = (_, is4 l h)

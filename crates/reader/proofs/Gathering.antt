@@ -169,7 +169,8 @@ module _ (names : List Name) (signals : ℕ) (rest : List ℕ) where
     pub gathering-ends : length rest ≤ at
         → rowsFrom names signals 0 (lines rest) ≡ rowsRead (map rowOf reads)
     unfolding rowsFrom
-    gathering-ends h = g .rows ∙ rw (lines-end rest at h) (ap rowsRead (append-nil (map rowOf reads)))
+    gathering-ends h =
+        g .rows ∙ rw (lines-end rest at h) (ap rowsRead (append-nil (map rowOf reads)))
 
     pub gathered-all : gathered sets bounds
         ≡ map rowOf reads ++ replicate (mostRows - length (map rowOf reads)) zeroRow

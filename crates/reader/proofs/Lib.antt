@@ -6,9 +6,9 @@ pub mod Gathering
 pub mod Only
 pub mod Found
 pub mod Accepted
--- `Fits`: number 17 lets each table by. `Witness`: a table that it lets by is some file's, sets
+-- `Valid`: number 17 lets each table by. `Witness`: a table that it lets by is some file's, sets
 -- apart, with its names by `PlainNames` and its lines by `PlainRows`.
-pub mod Fits
+pub mod Valid
 pub mod PlainNames
 pub mod PlainRows
 pub mod Witness

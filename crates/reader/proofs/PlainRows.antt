@@ -10,10 +10,10 @@ use Rattle.letters.specs.Lists.{every, some}
 use Rattle.letters.proofs.Lists.{and-left, and-right}
 use Rattle.letters.proofs.Sets.{setOf-false}
 use Rattle.table.specs.Limits.{mostTicks}
-use Rattle.table.specs.Row.{rowFits}
+use Rattle.table.specs.Row.{rowValid}
 use Rattle.table.specs.declared.Name.{Name}
 use Rattle.table.specs.declared.Row.{Row}
-use Rattle.table.proofs.Laws.{RowBounds, rowFits-bounds}
+use Rattle.table.proofs.Laws.{RowBounds, rowValid-bounds}
 use Rattle.text.specs.Bounds.{decimal}
 use Rattle.text.specs.Lines.{ended, joined, count, comma, All, none as all-none, and as all-and}
 use Rattle.text.proofs.Decimals.{decimal-length}
@@ -145,22 +145,22 @@ line-length row b =
 
 -- Rows in a list.
 module _ (s : ℕ) where
-  pub lines-rows : (names : List Name) (n : ℕ) (rows : List Row) → every (rowFits s) rows ≡ true
+  pub lines-rows : (names : List Name) (n : ℕ) (rows : List Row) → every (rowValid s) rows ≡ true
       → Each (IsRow names n) (map lineOf rows) (map bare rows)
   unfolding every
   lines-rows names n [] h = none
   lines-rows names n (row ∷ rows) h =
-      and (line-row names n row (rowFits-bounds s row (and-left (rowFits s row) _ h)))
-      (lines-rows names n rows (and-right (rowFits s row) _ h))
+      and (line-row names n row (rowValid-bounds s row (and-left (rowValid s row) _ h)))
+      (lines-rows names n rows (and-right (rowValid s row) _ h))
 
-  pub lines-length : (rows : List Row) → every (rowFits s) rows ≡ true
+  pub lines-length : (rows : List Row) → every (rowValid s) rows ≡ true
       → length (ended (map lineOf rows)) ≤ 42 * length rows
   unfolding every ended
   lines-length [] h = omega arith
   lines-length (row ∷ rows) h =
-      let bounds = rowFits-bounds s row (and-left (rowFits s row) _ h) in
+      let bounds = rowValid-bounds s row (and-left (rowValid s row) _ h) in
       let few = line-length row bounds in
-      let rest = lines-length rows (and-right (rowFits s row) _ h) in
+      let rest = lines-length rows (and-right (rowValid s row) _ h) in
       rw length-append (omega arith)
 
 pub bare-bounds : (rows : List Row) → Each SameBounds (map bare rows) rows

@@ -14,14 +14,14 @@ use Rattle.letters.specs.Letter.{width}
 use Rattle.letters.specs.Lists.{every, some}
 use Rattle.letters.proofs.Lists.{and-left, and-right}
 use Rattle.table.specs.Limits.{mostBytes, mostSignals}
-use Rattle.table.specs.Row.{rowFits}
-use Rattle.table.specs.Name.{nameFits, nameUnused, allDistinct}
-use Rattle.table.specs.Valid.{namesFit, rowsOf, tableFits}
+use Rattle.table.specs.Row.{rowValid}
+use Rattle.table.specs.Name.{nameValid, nameUnused, allDistinct}
+use Rattle.table.specs.Valid.{namesValid, rowsOf, tableValid}
 use Rattle.table.specs.declared.Name.{Name}
 use Rattle.table.specs.declared.Row.{Row}
 use Rattle.table.specs.declared.Table.{Table}
-use Rattle.table.proofs.Laws.{rulesFit-rows, tableFits-rules, tableFits-names, tableFits-count}
-use Rattle.table.proofs.Laws.{tableFits-signals}
+use Rattle.table.proofs.Laws.{rowsValid-rows, tableValid-rows, tableValid-names, tableValid-count}
+use Rattle.table.proofs.Laws.{tableValid-signals}
 use Rattle.text.specs.Lines.{ended, joined, count, LF, space, Free, All, none as all-none}
 use Rattle.text.specs.Lines.{and as all-and}
 use Rattle.conditions.specs.Condition.{nameOf, IsName}
@@ -36,7 +36,7 @@ use Rattle.reader.proofs.PlainRows.{joined-length, bare, lineOf, lines-
 use Rattle.reader.proofs.PlainRows.{bare-bounds}
 
 -- The file.
-module _ (table : Table) (sized : Sized table) (fits : tableFits table ≡ true) where
+module _ (table : Table) (sized : Sized table) (fits : tableValid table ≡ true) where
   abbrev s : ℕ
   s = table .signals
 
@@ -58,41 +58,41 @@ module _ (table : Table) (sized : Sized table) (fits : tableFits table ≡ true)
   abbrev otherOf : Table
   otherOf = tableFrom (length words) (namesFrom words) rows
 
-  names-parts : (every nameFits used ≡ true) × (allDistinct used ≡ true)
+  names-parts : (every nameValid used ≡ true) × (allDistinct used ≡ true)
       × (every nameUnused (drop s (table .names)) ≡ true)
-  unfolding namesFit
+  unfolding namesValid
   names-parts =
-      let named = tableFits-names table fits in
-      let both = and-left (every nameFits used && allDistinct used) _ named in (
-        and-left (every nameFits used) (allDistinct used) both,
-        and-right (every nameFits used) (allDistinct used) both,
-        and-right (every nameFits used && allDistinct used) _ named,
+      let named = tableValid-names table fits in
+      let both = and-left (every nameValid used && allDistinct used) _ named in (
+        and-left (every nameValid used) (allDistinct used) both,
+        and-right (every nameValid used) (allDistinct used) both,
+        and-right (every nameValid used && allDistinct used) _ named,
       )
 
-  rows-fit : every (rowFits s) (rowsOf table) ≡ true
-  rows-fit = rulesFit-rows s (rowsOf table) (tableFits-rules table fits)
+  rows-valid : every (rowValid s) (rowsOf table) ≡ true
+  rows-valid = rowsValid-rows s (rowsOf table) (tableValid-rows table fits)
 
   words-length : length words ≡ s
   words-length =
       length-map used wordOf
-      ∙ length-take-le s (table .names) (omega (arith, sized .names, tableFits-signals table fits))
+      ∙ length-take-le s (table .names) (omega (arith, sized .names, tableValid-signals table fits))
 
   rows-length : length rows ≡ table .count
   rows-length =
       length-map (rowsOf table) bare
       ∙ length-take-le (table .count) (table .rows)
-      (omega (arith, sized .rows, tableFits-count table fits))
+      (omega (arith, sized .rows, tableValid-count table fits))
 
   used-eight : Eight used
   used-eight i h =
       let long = length-take s (table .names) in
       rw (getD-take s (table .names) i noName (omega arith))
-      (sized .letters i (omega (arith, sized .names)))
+      (sized .chars i (omega (arith, sized .names)))
 
   rest-eight : Eight (drop s (table .names))
   rest-eight i h =
       let long = length-drop s (table .names) in
-      rw getD-drop (sized .letters (s + i) (omega (arith, sized .names)))
+      rw getD-drop (sized .chars (s + i) (omega (arith, sized .names)))
 
   names-same : namesFrom words ≡ table .names
   names-same =
@@ -116,25 +116,25 @@ module _ (table : Table) (sized : Sized table) (fits : tableFits table ≡ true)
       let short : All (λ piece. length piece ≤ 8) (signalsWord ∷ words) =
       all-and {a = signalsWord} (omega arith) (words-short words words-are) in
       let second = joined-length space 8 (signalsWord ∷ words) short in
-      let rest = lines-length s (rowsOf table) rows-fit in
+      let rest = lines-length s (rowsOf table) rows-valid in
       let many = length-map (rowsOf table) bare in
       simp length-append (omega (
         arith,
         words-length,
         rows-length,
-        tableFits-signals table fits,
-        tableFits-count table fits,
+        tableValid-signals table fits,
+        tableValid-count table fits,
       ))
 
   signals-are : IsSignals (joined space (signalsWord ∷ words)) words
   signals-are = record {
     line-is = refl;
-    some = omega (arith, words-length, tableFits-signals table fits);
+    some = omega (arith, words-length, tableValid-signals table fits);
     named = words-are;
   }
 
   rows-are : AreRows words (map lineOf (rowsOf table)) rows
-  rows-are = lines-rows s (map nameOf words) (width (length words)) (rowsOf table) rows-fit
+  rows-are = lines-rows s (map nameOf words) (width (length words)) (rowsOf table) rows-valid
 
   rows-apart : {rules : List (List ℕ)} {rows : List Row} → AreRows words rules rows → Free LF rules
   rows-apart none = all-none
@@ -151,8 +151,8 @@ module _ (table : Table) (sized : Sized table) (fits : tableFits table ≡ true)
     few = bytes-few;
   }
 
-  pub fits-witnessed : Witnessed table
-  fits-witnessed = record {
+  pub valid-witnessed : Witnessed table
+  valid-witnessed = record {
     bytes = bytesOf;
     other = otherOf;
     file = record {
@@ -161,12 +161,12 @@ module _ (table : Table) (sized : Sized table) (fits : tableFits table ≡ true)
       rows = rows;
       header = record {
         has-names = record { line2 = _; lines = lines-are; signals = signals-are };
-        few = omega (arith, words-length, tableFits-signals table fits);
+        few = omega (arith, words-length, tableValid-signals table fits);
         differ = rw (words-names used used-eight (names-parts .0)) (names-parts .1);
       };
       rows-are = rows-are;
-      rows-some = omega (arith, rows-length, tableFits-count table fits);
-      rows-few = omega (arith, rows-length, tableFits-count table fits);
+      rows-some = omega (arith, rows-length, tableValid-count table fits);
+      rows-few = omega (arith, rows-length, tableValid-count table fits);
       table-is = refl;
     };
     signals = words-length;

@@ -2,7 +2,7 @@
 use Prim.Native.Nat.{ℕ, _-_}
 use mathlib.Core.List.{List, _++_}
 use lib.ListN.{length, replicate}
-use Rattle.table.specs.Limits.{mostSignals, mostRows}
+use Rattle.table.specs.Limits.{mostSignals, mostRows, conditions}
 use Rattle.table.specs.Refusal.{refusedAt}
 use Rattle.table.specs.declared.Outcome.the-variants.{Accepted}
 use Rattle.table.specs.declared.Name.{Name}
@@ -12,7 +12,15 @@ use Rattle.header.specs.Header.{noName}
 use Rattle.reader.specs.declared.Reading.{Reading}
 
 abbrev pub zeroRow : Row
-zeroRow = record { sets = replicate 6 0; tmin = 0; tmax = 0; lmin = 0; lmax = 0; amin = 0; amax = 0 }
+zeroRow = record {
+  sets = replicate conditions 0;
+  tmin = 0;
+  tmax = 0;
+  lmin = 0;
+  lmax = 0;
+  amin = 0;
+  amax = 0;
+}
 
 -- The table of some signals, with their names, and of some rows: unused rows are 0.
 abbrev pub tableFrom : ℕ → List Name → List Row → Table

@@ -52,9 +52,11 @@ module _ (bytes : List ℕ) where
         → length rules ≡ mostRows → RightReading (refusedFile 9 (mostRows + 3))
     -- 10 to 15, of the first line that is no row
     isFault : {names rules : List (List ℕ)} {rows : List Row} {number : ℕ} (line : List ℕ)
-        (rest : List (List ℕ)) → HasHeader bytes names (rules ++ line ∷ rest) → AreRows names rules rows
-        → length rules < mostRows → RowFault (map nameOf names) (width (length names)) line number
+        (rest : List (List ℕ)) → HasHeader bytes names (rules ++ line ∷ rest)
+        → AreRows names rules rows → length rules < mostRows
+        → RowFault (map nameOf names) (width (length names)) line number
         → RightReading (refusedFile number (length rules + 3))
     -- "no row"
     is16 : {names : List (List ℕ)} → HasHeader bytes names [] → RightReading (refusedFile 16 3)
+    -- no number fits
     isTable : {table : Table} → IsFile bytes table → RightReading (accepted table)

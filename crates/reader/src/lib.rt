@@ -4,7 +4,7 @@
 use table::CONDITIONS;
 use table::MOST_ROWS;
 use table::MOST_SIGNALS;
-use table::NAME_LETTERS;
+use table::NAME_CHARS;
 use table::Name;
 use table::Outcome;
 use table::Refusal;
@@ -32,7 +32,7 @@ pub fn empty() -> Table
     ensures { λ r. ⌜ r ≡ emptyTable ⌝ }
 {
     let name = Name {
-        letters: [0u8; NAME_LETTERS],
+        chars: [0u8; NAME_CHARS],
     };
     let row = rows::row_of([0u64; CONDITIONS], [0u8; rows::BOUNDS]);
     Table {

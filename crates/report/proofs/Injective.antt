@@ -10,7 +10,7 @@ use mathlib.Core.List.{head-eq-of-cons-eq, tail-eq-of-cons-eq}
 use mathlib.Core.Path.{_≡_, refl, sym, ap, ap₂, _∙_}
 use lib.ListN.{length, getD, take, drop}
 use lib.Seq.{length-take-le}
-use Rattle.letters.specs.Letter.{signalOn, bit, letters, letterFits}
+use Rattle.letters.specs.Letter.{signalOn, bit, letters, letterValid}
 use Rattle.letters.specs.Lists.{every}
 use Rattle.letters.proofs.Bits.{bit-injective}
 use Rattle.letters.proofs.Lists.{and-left, and-right}
@@ -135,7 +135,7 @@ trap-injective s t b c h g same =
     (same .1)
 
 module _ (signals : ℕ) where
-  tick-injective : (tick x y : ℕ) → letterFits signals x ≡ true → letterFits signals y ≡ true
+  tick-injective : (tick x y : ℕ) → letterValid signals x ≡ true → letterValid signals y ≡ true
       → tickLine signals tick x ≡ tickLine signals tick y → x ≡ y
   tick-injective tick x y f g e =
       let same = tail-eq-of-cons-eq (append-cancel-left (tickWord ++ decimal tick)
@@ -143,8 +143,8 @@ module _ (signals : ℕ) where
       set-ext signals x y (ltb-true x (letters signals) f) (ltb-true y (letters signals) g)
       (λ l h. values-injective signals 0 x y same l (omega arith) (omega arith))
 
-  trace-injective : (m n tick : ℕ) (v w : List ℕ) → every (letterFits signals) v ≡ true
-      → every (letterFits signals) w ≡ true
+  trace-injective : (m n tick : ℕ) (v w : List ℕ) → every (letterValid signals) v ≡ true
+      → every (letterValid signals) w ≡ true
       → tickLines signals tick v ++ (lostWord ++ decimal m) ∷ []
       ≡ tickLines signals tick w ++ (lostWord ++ decimal n) ∷ [] → (v ≡ w) × (m ≡ n)
   unfolding tickLines every
@@ -153,7 +153,7 @@ module _ (signals : ℕ) where
   trace-injective m n tick [] (y ∷ w) f g e = absurd (omega (arith, ap (byteAt 0 0) e))
   trace-injective m n tick (x ∷ v) [] f g e = absurd (omega (arith, ap (byteAt 0 0) e))
   trace-injective m n tick (x ∷ v) (y ∷ w) f g e =
-      let fits = letterFits signals in
+      let fits = letterValid signals in
       let first = tick-injective tick x y (and-left (fits x) (every fits v) f)
       (and-left (fits y) (every fits w) g) (head-eq-of-cons-eq e) in
       let others = trace-injective m n (suc tick) v w (and-right (fits x) (every fits v) f)

@@ -4,7 +4,7 @@ use mathlib.Core.Bool.{true}
 use mathlib.Core.List.{List, [], _∷_, _++_}
 use mathlib.Core.Path.{_≡_}
 use lib.ListN.{length, take}
-use Rattle.letters.specs.Letter.{signalOn, bit, letterFits}
+use Rattle.letters.specs.Letter.{signalOn, bit, letterValid}
 use Rattle.letters.specs.Lists.{every}
 use Rattle.text.specs.Bounds.{decimal}
 use Rattle.text.specs.Bytes.{bytes}

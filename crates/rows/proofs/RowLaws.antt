@@ -143,7 +143,8 @@ module _ (names : List Name) (n : ℕ) (line : List ℕ) where
     here-next more =
         let xs = drop at line in
         let some : 0 < count comma xs = omega (arith, here .commas) in
-        let next : at + (length (front comma xs) + 1) ≡ at + length (front comma xs) + 1 = omega arith in
+        let size = length (front comma xs) in
+        let next : at + (size + 1) ≡ at + size + 1 = omega arith in
         let after-it = after-drop comma xs some ∙ drop-drop (length (front comma xs) + 1) at line in
         let there = rw next at after-it in
         let first = here .rest ∙ ap (fieldsOf names n k) (split-cons comma xs some) in
@@ -192,7 +193,8 @@ module _ (names : List Name) (n : ℕ) (line : List ℕ) where
       → Gathered values at k → valuesAnswer fields ≡ record { number = 0; values = values }
   unfolding valuesAnswer numberAmong
   gathered-all values at k commas h now =
-      let size = fields-length names n (split comma (drop 5 line)) 0 ∙ split-length comma (drop 5 line) in
+      let size = fields-length names n (split comma (drop 5 line)) 0
+      ∙ split-length comma (drop 5 line) in
       let none : 12 - k ≡ 0 = omega arith in
       let clean = now .clean ∙ ap numberAmong (drop-of-length-le fields {i = k} (omega arith)) in
       let all = rw (take-all k fields (omega arith), none, append-nil) at (now .stored) in

@@ -199,8 +199,8 @@ module _ (names : List Name) (n : ℕ) where
 
   -- Each line is a row, or has a fault.
   pub data RowFound (line : List ℕ) : Type 0 where
-    isRow : (row : Row) → IsRow names n line row → RowFound line
-    noRow : (number : ℕ) → RowFault names n line number → RowFound line
+    aRow : (row : Row) → IsRow names n line row → RowFound line
+    aFault : (number : ℕ) → RowFault names n line number → RowFound line
 
   pub row-found : (line : List ℕ) → RowFound line
   row-found line = go (ruleShaped line) refl
@@ -219,21 +219,21 @@ module _ (names : List Name) (n : ℕ) where
 
           go : (t : Bool) → boundsOrdered (boundsOf (rowOf values)) ≡ t → RowFound line
           go true e =
-              isRow (rowOf values) (record { has = has; ordered = true-ordered (rowOf values) e })
+              aRow (rowOf values) (record { has = has; ordered = true-ordered (rowOf values) e })
           go false e =
-              noRow 15 (crossed has (λ o. true≢false (sym (ordered-true (rowOf values) o) ∙ e)))
+              aFault 15 (crossed has (λ o. true≢false (sym (ordered-true (rowOf values) o) ∙ e)))
 
       fielded : (fields : List (List ℕ)) → IsRule line fields
           → FieldsFound names n fieldKinds fields → RowFound line
       fielded fields rule (right values all) = ranked fields values rule all _ refl
-      fielded fields rule (fault number first) = noRow number (inField rule first)
+      fielded fields rule (fault number first) = aFault number (inField rule first)
 
       go : (t : Bool) → ruleShaped line ≡ t → RowFound line
       go true e =
           let rule = shaped-rule line e in
           fielded _ rule (fields-found names n fieldKinds _ (rule .twelve))
       go false e =
-          noRow 10 (misshapen (λ fields rule. true≢false (sym (rule-shaped line fields rule) ∙ e)))
+          aFault 10 (misshapen (λ fields rule. true≢false (sym (rule-shaped line fields rule) ∙ e)))
 
 -- The numbers that a line can get.
 module _ (names : List Name) (n : ℕ) where

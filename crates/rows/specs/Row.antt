@@ -21,8 +21,8 @@ pub data FieldKind : Type 0 where
 
 abbrev pub fieldKinds : List FieldKind
 fieldKinds =
-    aCondition ∷ aCondition ∷ aCondition ∷ aBound ∷ aBound ∷ aBound ∷ aBound ∷ aCondition ∷ aCondition
-    ∷ aCondition ∷ aBound ∷ aBound ∷ []
+    aCondition ∷ aCondition ∷ aCondition ∷ aBound ∷ aBound ∷ aBound ∷ aBound
+    ∷ aCondition ∷ aCondition ∷ aCondition ∷ aBound ∷ aBound ∷ []
 
 pub record IsRule (line : List ℕ) (fields : List (List ℕ)) : Type 0 where
   pub line-is : line ≡ ruleWord ++ joined comma fields

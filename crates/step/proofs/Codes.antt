@@ -11,8 +11,10 @@ use Rattle.table.specs.Limits.{mostTicks}
 use Rattle.table.specs.declared.Row.{Row}
 use Rattle.step.specs.declared.Phase.{Phase}
 use Rattle.step.specs.declared.Phase.the-variants.{Waiting, Trigger, Delay, Action, Broken}
-use Rattle.step.specs.Phase.{delayCodes, actionCodes, brokenCode, codeOf, phaseOf}
-use Rattle.step.specs.Fits.{phaseFits, codeFits}
+use Rattle.step.specs.Phase.{delayCodes, actionCodes, brokenCode, codeOf}
+use Rattle.step.specs.further.Codes.{phaseOf}
+use Rattle.step.specs.Valid.{phaseValid}
+use Rattle.step.specs.further.Codes.{codeValid}
 
 -- A row whose bounds fit the codes: what number 17 lets by has at most `mostTicks`.
 pub record Bounded (row : Row) : Type 0 where
@@ -52,9 +54,9 @@ phaseOf-action a low high =
     )
 
 -- The code of a phase that fits its row leads back to the phase.
-pub phase-code : (row : Row) (phase : Phase) → Bounded row → phaseFits row phase ≡ true
+pub phase-code : (row : Row) (phase : Phase) → Bounded row → phaseValid row phase ≡ true
     → phaseOf (codeOf phase) ≡ phase
-unfolding phaseFits codeOf
+unfolding phaseValid codeOf
 phase-code row Waiting b h = unfold phaseOf in refl
 phase-code row (Trigger t) b h = phaseOf-trigger t (within-low 1 _ t h)
     (omega (arith, b .trigger, within-high 1 _ t h))
@@ -65,9 +67,9 @@ phase-code row (Action a) b h = phaseOf-action a (within-low 1 _ a h)
 phase-code row Broken b h = unfold phaseOf in refl
 
 -- It is a code of one byte.
-pub code-low : (row : Row) (phase : Phase) → Bounded row → phaseFits row phase ≡ true
+pub code-low : (row : Row) (phase : Phase) → Bounded row → phaseValid row phase ≡ true
     → codeOf phase ≤ brokenCode
-unfolding phaseFits codeOf
+unfolding phaseValid codeOf
 code-low row Waiting b h = omega arith
 code-low row (Trigger t) b h = omega (arith, b .trigger, within-high 1 _ t h)
 code-low row (Delay d) b h = omega (arith, b .delay, within-high 1 _ d h)
@@ -75,8 +77,8 @@ code-low row (Action a) b h = omega (arith, b .action, within-high 1 _ a h)
 code-low row Broken b h = omega arith
 
 -- Two phases that fit rows and have the same code are the same.
-pub code-injective : (r q : Row) (p o : Phase) → Bounded r → Bounded q → phaseFits r p ≡ true
-    → phaseFits q o ≡ true
+pub code-injective : (r q : Row) (p o : Phase) → Bounded r → Bounded q → phaseValid r p ≡ true
+    → phaseValid q o ≡ true
     → codeOf p ≡ codeOf o → p ≡ o
 code-injective r q p o br bq hp ho e = sym (phase-code r p br hp) ∙ ap phaseOf e
     ∙ phase-code q o bq ho
@@ -121,13 +123,13 @@ leb-shift k a b = go (decLe a b)
     go (no h) = lt-leb (k + a) (k + b) (omega arith) ∙ sym (lt-leb a b (omega arith))
 
 -- Number 18 says the same of a code as of its phase.
-pub code-fits : (row : Row) (c : ℕ) → Bounded row → c ≤ brokenCode
-    → codeFits row c ≡ phaseFits row (phaseOf c)
-code-fits row c b h = go (place-of c h)
+pub code-valid : (row : Row) (c : ℕ) → Bounded row → c ≤ brokenCode
+    → codeValid row c ≡ phaseValid row (phaseOf c)
+code-valid row c b h = go (place-of c h)
   where
-    go : {k : ℕ} → Place k → codeFits row k ≡ phaseFits row (phaseOf k)
-    go waits = unfold codeFits phaseFits phaseOf in refl
-    go (triggers {t = t} low high) = unfold codeFits phaseFits in
+    go : {k : ℕ} → Place k → codeValid row k ≡ phaseValid row (phaseOf k)
+    go waits = unfold codeValid phaseValid phaseOf in refl
+    go (triggers {t = t} low high) = unfold codeValid phaseValid in
         rw (phaseOf-trigger t low high)
         (simp (
           ne-eqb t 0 (omega arith),
@@ -136,7 +138,7 @@ code-fits row c b h = go (place-of c h)
           lt-leb (actionCodes + 1) t (omega arith),
           or-false,
         ))
-    go (delays {d = d} low high) = unfold codeFits phaseFits in
+    go (delays {d = d} low high) = unfold codeValid phaseValid in
         rw (phaseOf-delay d low high)
         (simp (
           ne-eqb (delayCodes + d) 0 (omega arith),
@@ -152,7 +154,7 @@ code-fits row c b h = go (place-of c h)
               low,
           or-false,
         ))
-    go (acts {a = a} low high) = unfold codeFits phaseFits in
+    go (acts {a = a} low high) = unfold codeValid phaseValid in
         rw (phaseOf-action a low high)
         (simp (
           ne-eqb (actionCodes + a) 0 (omega arith),
@@ -168,4 +170,4 @@ code-fits row c b h = go (place-of c h)
           leb-shift actionCodes a (row .amax),
           le-leb 1 a low,
         ))
-    go breaks = unfold codeFits phaseFits phaseOf in refl
+    go breaks = unfold codeValid phaseValid phaseOf in refl

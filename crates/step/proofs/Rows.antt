@@ -16,57 +16,57 @@ use Rattle.step.specs.declared.Phase.the-variants.{Waiting, Trigger, Del
 use Rattle.step.specs.Phase.{isBroken}
 use Rattle.step.specs.Step.{actionCheck, delayCheck, triggerCheck, stepRow}
 use Rattle.step.specs.Tick.{tick, someBroken}
-use Rattle.step.specs.Fits.{phaseFits, phasesFit}
+use Rattle.step.specs.Valid.{phaseValid, phasesValid}
 
 -- A choice fits if what is chosen fits.
-fits-cond : (row : Row) (b : Bool) (p o : Phase) → phaseFits row p ≡ true
-    → (b ≡ false → phaseFits row o ≡ true)
-    → phaseFits row (cond b p o) ≡ true
+fits-cond : (row : Row) (b : Bool) (p o : Phase) → phaseValid row p ≡ true
+    → (b ≡ false → phaseValid row o ≡ true)
+    → phaseValid row (cond b p o) ≡ true
 fits-cond row true p o hp ho = hp
 fits-cond row false p o hp ho = ho refl
 
 -- One more tick fits where a test found room for it.
-fits-more : (row : Row) (hold : Bool) (t most : ℕ) (p o : Phase) → phaseFits row o ≡ true
-    → (within 1 most (t + 1) ≡ true → phaseFits row p ≡ true)
-    → phaseFits row (cond (hold && ltb t most) p o) ≡ true
+fits-more : (row : Row) (hold : Bool) (t most : ℕ) (p o : Phase) → phaseValid row o ≡ true
+    → (within 1 most (t + 1) ≡ true → phaseValid row p ≡ true)
+    → phaseValid row (cond (hold && ltb t most) p o) ≡ true
 fits-more row hold t most p o ho hp = go (hold && ltb t most) refl
   where
-    go : (b : Bool) → (hold && ltb t most) ≡ b → phaseFits row (cond b p o) ≡ true
+    go : (b : Bool) → (hold && ltb t most) ≡ b → phaseValid row (cond b p o) ≡ true
     go true e = hp (within-true 1 most (t + 1) (omega arith)
         (omega (arith, ltb-true t most (and-right hold (ltb t most) e))))
     go false e = ho
 
 module _ (row : Row) (letter : ℕ) where
-  action-fits : (a : ℕ) → phaseFits row (actionCheck row letter a) ≡ true
-  unfolding actionCheck phaseFits
-  action-fits a =
+  action-valid : (a : ℕ) → phaseValid row (actionCheck row letter a) ≡ true
+  unfolding actionCheck phaseValid
+  action-valid a =
       fits-cond row (holds row aee letter && leb (row .amin) a) Waiting _ refl
       (λ _. fits-more row (holds row ac letter) a (row .amax) (Action (a + 1)) Broken refl (λ h. h))
 
-  delay-fits : (d : ℕ) → phaseFits row (delayCheck row letter d) ≡ true
-  unfolding delayCheck phaseFits
-  delay-fits d =
+  delay-valid : (d : ℕ) → phaseValid row (delayCheck row letter d) ≡ true
+  unfolding delayCheck phaseValid
+  delay-valid d =
       fits-cond row (holds row ase letter && leb (row .lmin) d) (actionCheck row letter 0) _
-      (action-fits 0)
+      (action-valid 0)
       (λ _. fits-more row true d (row .lmax) (Delay (d + 1)) Broken refl (λ h. h))
 
-  trigger-fits : (t : ℕ) → phaseFits row (triggerCheck row letter t) ≡ true
-  unfolding triggerCheck phaseFits
-  trigger-fits t =
+  trigger-valid : (t : ℕ) → phaseValid row (triggerCheck row letter t) ≡ true
+  unfolding triggerCheck phaseValid
+  trigger-valid t =
       fits-cond row (holds row tee letter && leb (row .tmin) t) (delayCheck row letter 0) _
-      (delay-fits 0)
+      (delay-valid 0)
       (λ _. fits-more row (holds row tc letter) t (row .tmax) (Trigger (t + 1)) Waiting refl
       (λ h. h))
 
   -- Whatever the phase was, after a letter number 18 lets it by.
-  pub step-fits : (phase : Phase) → phaseFits row (stepRow row letter phase) ≡ true
-  unfolding stepRow phaseFits
-  step-fits Waiting = fits-cond row (holds row tse letter) (triggerCheck row letter 0) Waiting
-      (trigger-fits 0) (λ _. refl)
-  step-fits (Trigger t) = trigger-fits t
-  step-fits (Delay d) = delay-fits d
-  step-fits (Action a) = action-fits a
-  step-fits Broken = refl
+  pub step-valid : (phase : Phase) → phaseValid row (stepRow row letter phase) ≡ true
+  unfolding stepRow phaseValid
+  step-valid Waiting = fits-cond row (holds row tse letter) (triggerCheck row letter 0) Waiting
+      (trigger-valid 0) (λ _. refl)
+  step-valid (Trigger t) = trigger-valid t
+  step-valid (Delay d) = delay-valid d
+  step-valid (Action a) = action-valid a
+  step-valid Broken = refl
 
   -- "Broken stays broken."
   pub step-broken : (phase : Phase) → isBroken phase ≡ true
@@ -109,14 +109,14 @@ tick-beyond (row ∷ rows) letter (phase ∷ phases) (suc i) h =
     tick-beyond rows letter phases i (omega arith)
 
 -- After a tick number 18 lets the state by.
-pub tick-fits : (rows : List Row) (letter : ℕ) (phases : List Phase) → phasesFit rows phases ≡ true
-    → phasesFit rows (tick rows letter phases) ≡ true
-unfolding tick phasesFit
-tick-fits [] letter phases h = h
-tick-fits (row ∷ rows) letter [] h = h
-tick-fits (row ∷ rows) letter (phase ∷ phases) h =
-    rw (step-fits row letter phase)
-    (tick-fits rows letter phases (and-right (phaseFits row phase) (phasesFit rows phases) h))
+pub tick-valid : (rows : List Row) (letter : ℕ) (phases : List Phase) → phasesValid rows phases ≡ true
+    → phasesValid rows (tick rows letter phases) ≡ true
+unfolding tick phasesValid
+tick-valid [] letter phases h = h
+tick-valid (row ∷ rows) letter [] h = h
+tick-valid (row ∷ rows) letter (phase ∷ phases) h =
+    rw (step-valid row letter phase)
+    (tick-valid rows letter phases (and-right (phaseValid row phase) (phasesValid rows phases) h))
 
 -- A broken row stays broken, whichever it is.
 pub tick-broken : (rows : List Row) (letter : ℕ) (phases : List Phase) → someBroken phases ≡ true

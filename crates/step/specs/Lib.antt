@@ -2,5 +2,6 @@
 pub mod Phase
 pub mod Step
 pub mod Tick
-pub mod Fits
+pub mod Valid
+pub mod further
 pub mod inner

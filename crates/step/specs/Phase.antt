@@ -1,7 +1,6 @@
 -- Phases and their codes.
-use Prim.Native.Nat.{ℕ, _+_, _*_, _-_}
-use mathlib.Core.Bool.{Bool, true, false, cond}
-use lib.Dec.{leb, ltb, eqb}
+use Prim.Native.Nat.{ℕ, _+_, _*_}
+use mathlib.Core.Bool.{Bool, true, false}
 use Rattle.table.specs.Limits.{mostTicks}
 use Rattle.step.specs.declared.Phase.{Phase}
 use Rattle.step.specs.declared.Phase.the-variants.{Waiting, Trigger, Delay, Action, Broken}
@@ -24,14 +23,6 @@ codeOf (Trigger t) = t
 codeOf (Delay d) = delayCodes + d
 codeOf (Action a) = actionCodes + a
 codeOf Broken = brokenCode
-
--- And back. From 181 to 254 there is no phase of a row: the action there is longer than any bound.
-unfoldable pub phaseOf : ℕ → Phase
-phaseOf c =
-    cond (eqb c 0) Waiting
-    (cond (leb c delayCodes) (Trigger c)
-    (cond (leb c actionCodes) (Delay (c - delayCodes))
-    (cond (ltb c brokenCode) (Action (c - actionCodes)) Broken)))
 
 unfoldable pub isBroken : Phase → Bool
 isBroken Waiting = false

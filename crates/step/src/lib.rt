@@ -9,12 +9,13 @@ use table::TC;
 use table::TEE;
 use table::TSE;
 ghost use mathlib.Core.Path.{_≡_};
-ghost use Rattle.step.specs.Phase.{codeOf, phaseOf};
+ghost use Rattle.step.specs.Phase.{codeOf};
+ghost use Rattle.step.specs.further.Codes.{phaseOf};
 ghost use Rattle.step.specs.declared.Phase.the-variants.{Waiting};
 ghost use Rattle.step.specs.Step.{actionCheck, delayCheck, triggerCheck};
 ghost use Rattle.step.specs.Step.{steppedTo, stepped};
 ghost use Rattle.step.specs.inner.Check.{checkOf};
-ghost use Rattle.step.specs.Fits.{phaseFits, isWaiting};
+ghost use Rattle.step.specs.Valid.{phaseValid, isWaiting};
 
 // The codes of delay and of action count on from these, and a broken row has the last one.
 pub const DELAY_CODES: u8 = MOST_TICKS;
@@ -158,8 +159,8 @@ pub fn phase_of(code: u8) -> Phase
 }
 
 // Whether number 18 lets a row's phase by.
-pub fn phase_fits(row: Row, phase: Phase) -> bool
-    ensures { λ r. ⌜ r ≡ phaseFits row phase ⌝ }
+pub fn phase_valid(row: Row, phase: Phase) -> bool
+    ensures { λ r. ⌜ r ≡ phaseValid row phase ⌝ }
 {
     match phase {
         Phase::Waiting => true,

@@ -7,31 +7,31 @@ use mathlib.Core.List.{List}
 use mathlib.Core.Path.{_≡_}
 use lib.ListN.{length, getD, take, drop, drop-of-length-le}
 use lib.Seq.{drop-cons, getD-take}
-use Rattle.letters.specs.Letter.{setFits}
+use Rattle.letters.specs.Letter.{setValid}
 use Rattle.letters.specs.Lists.{within, every, some}
 use Rattle.letters.proofs.Lists.{and-left, and-right, and-four, lt-length-take, within-bounds}
 use Rattle.table.specs.Limits.{mostRows, mostSignals, mostTicks}
-use Rattle.table.specs.Row.{boundsFit, rowFits, rowUnused}
-use Rattle.table.specs.Name.{isLetter, letterRun, sameName, allDistinct}
-use Rattle.table.specs.Valid.{rulesFit, namesFit, rowsOf, tableFits}
+use Rattle.table.specs.Row.{boundsValid, rowValid, rowUnused}
+use Rattle.table.specs.Name.{isLowercase, nameRun, sameName, allDistinct}
+use Rattle.table.specs.Valid.{rowsValid, namesValid, rowsOf, tableValid}
 use Rattle.table.specs.declared.Name.{Name}
 use Rattle.table.specs.declared.Row.{Row}
 use Rattle.table.specs.declared.Table.{Table}
 
 -- Letters in front.
 module _ (xs : List ℕ) (i : ℕ) where
-  pub letterRun-next : i < length xs → isLetter (getD xs i 0) ≡ true
-      → letterRun (drop i xs) ≡ letterRun (drop (i + 1) xs) + 1
-  unfolding letterRun
-  letterRun-next h e = rw (drop-cons xs i 0 h, e, add-one i, add-one)
+  pub nameRun-next : i < length xs → isLowercase (getD xs i 0) ≡ true
+      → nameRun (drop i xs) ≡ nameRun (drop (i + 1) xs) + 1
+  unfolding nameRun
+  nameRun-next h e = rw (drop-cons xs i 0 h, e, add-one i, add-one)
 
-  pub letterRun-stop : i < length xs → isLetter (getD xs i 0) ≡ false → letterRun (drop i xs) ≡ 0
-  unfolding letterRun
-  letterRun-stop h e = rw (drop-cons xs i 0 h, e)
+  pub nameRun-stop : i < length xs → isLowercase (getD xs i 0) ≡ false → nameRun (drop i xs) ≡ 0
+  unfolding nameRun
+  nameRun-stop h e = rw (drop-cons xs i 0 h, e)
 
-  pub letterRun-end : length xs ≤ i → letterRun (drop i xs) ≡ 0
-  unfolding letterRun
-  letterRun-end h = rw (drop-of-length-le xs h)
+  pub nameRun-end : length xs ≤ i → nameRun (drop i xs) ≡ 0
+  unfolding nameRun
+  nameRun-end h = rw (drop-of-length-le xs h)
 
 -- No name twice among the first n.
 module _ (n : ℕ) (xs : List Name) (i : ℕ) (d : Name) (h : i < n) (k : i < length xs) where
@@ -62,11 +62,11 @@ pub record RowBounds (r : Row) : Type 0 where
   pub action : r .amin ≤ r .amax
   pub action-most : r .amax ≤ mostTicks
 
-pub rowFits-bounds : (s : ℕ) (r : Row) → rowFits s r ≡ true → RowBounds r
-unfolding rowFits
-rowFits-bounds s r h =
-    let parts = and-four (boundsFit (r .tmin) (r .tmax)) (boundsFit (r .lmin) (r .lmax))
-    (boundsFit (r .amin) (r .amax)) (every (setFits s) (r .sets)) h in
+pub rowValid-bounds : (s : ℕ) (r : Row) → rowValid s r ≡ true → RowBounds r
+unfolding rowValid
+rowValid-bounds s r h =
+    let parts = and-four (boundsValid (r .tmin) (r .tmax)) (boundsValid (r .lmin) (r .lmax))
+    (boundsValid (r .amin) (r .amax)) (every (setValid s) (r .sets)) h in
     let t = within-bounds (r .tmin) mostTicks (r .tmax) (parts .0) in
     let l = within-bounds (r .lmin) mostTicks (r .lmax) (parts .1) in
     let a = within-bounds (r .amin) mostTicks (r .amax) (parts .2) in
@@ -79,44 +79,44 @@ rowFits-bounds s r h =
       action-most = a .1;
     }
 
-pub rulesFit-signals : (s : ℕ) (rows : List Row) → rulesFit s rows ≡ true
+pub rowsValid-signals : (s : ℕ) (rows : List Row) → rowsValid s rows ≡ true
     → (1 ≤ s) × (s ≤ mostSignals)
-unfolding rulesFit
-rulesFit-signals s rows h =
-    let counts = and-left _ (every (rowFits s) rows) h in
+unfolding rowsValid
+rowsValid-signals s rows h =
+    let counts = and-left _ (every (rowValid s) rows) h in
     within-bounds 1 mostSignals s (and-left _ (within 1 mostRows (length rows)) counts)
 
-pub rulesFit-count : (s : ℕ) (rows : List Row) → rulesFit s rows ≡ true
+pub rowsValid-count : (s : ℕ) (rows : List Row) → rowsValid s rows ≡ true
     → (1 ≤ length rows) × (length rows ≤ mostRows)
-unfolding rulesFit
-rulesFit-count s rows h =
-    let counts = and-left _ (every (rowFits s) rows) h in
+unfolding rowsValid
+rowsValid-count s rows h =
+    let counts = and-left _ (every (rowValid s) rows) h in
     within-bounds 1 mostRows (length rows) (and-right (within 1 mostSignals s) _ counts)
 
-pub rulesFit-rows : (s : ℕ) (rows : List Row) → rulesFit s rows ≡ true
-    → every (rowFits s) rows ≡ true
-unfolding rulesFit
-rulesFit-rows s rows h = and-right (within 1 mostSignals s && within 1 mostRows (length rows)) _ h
+pub rowsValid-rows : (s : ℕ) (rows : List Row) → rowsValid s rows ≡ true
+    → every (rowValid s) rows ≡ true
+unfolding rowsValid
+rowsValid-rows s rows h = and-right (within 1 mostSignals s && within 1 mostRows (length rows)) _ h
 
 -- A table value that number 17 lets by.
-module _ (t : Table) (fits : tableFits t ≡ true) where
-  tableFits-parts : (within 1 mostRows (t .count) ≡ true) ×
-      (rulesFit (t .signals) (rowsOf t) ≡ true)
-      × (namesFit (t .signals) (t .names) ≡ true)
+module _ (t : Table) (fits : tableValid t ≡ true) where
+  tableValid-parts : (within 1 mostRows (t .count) ≡ true) ×
+      (rowsValid (t .signals) (rowsOf t) ≡ true)
+      × (namesValid (t .signals) (t .names) ≡ true)
       × (every rowUnused (drop (t .count) (t .rows)) ≡ true)
-  unfolding tableFits
-  tableFits-parts =
-      and-four (within 1 mostRows (t .count)) (rulesFit (t .signals) (rowsOf t))
-      (namesFit (t .signals) (t .names)) (every rowUnused (drop (t .count) (t .rows))) fits
+  unfolding tableValid
+  tableValid-parts =
+      and-four (within 1 mostRows (t .count)) (rowsValid (t .signals) (rowsOf t))
+      (namesValid (t .signals) (t .names)) (every rowUnused (drop (t .count) (t .rows))) fits
 
-  pub tableFits-rules : rulesFit (t .signals) (rowsOf t) ≡ true
-  tableFits-rules = tableFits-parts .1
+  pub tableValid-rows : rowsValid (t .signals) (rowsOf t) ≡ true
+  tableValid-rows = tableValid-parts .1
 
-  pub tableFits-names : namesFit (t .signals) (t .names) ≡ true
-  tableFits-names = tableFits-parts .2
+  pub tableValid-names : namesValid (t .signals) (t .names) ≡ true
+  tableValid-names = tableValid-parts .2
 
-  pub tableFits-count : (1 ≤ t .count) × (t .count ≤ mostRows)
-  tableFits-count = within-bounds 1 mostRows (t .count) (tableFits-parts .0)
+  pub tableValid-count : (1 ≤ t .count) × (t .count ≤ mostRows)
+  tableValid-count = within-bounds 1 mostRows (t .count) (tableValid-parts .0)
 
-  pub tableFits-signals : (1 ≤ t .signals) × (t .signals ≤ mostSignals)
-  tableFits-signals = rulesFit-signals (t .signals) (rowsOf t) tableFits-rules
+  pub tableValid-signals : (1 ≤ t .signals) × (t .signals ≤ mostSignals)
+  tableValid-signals = rowsValid-signals (t .signals) (rowsOf t) tableValid-rows

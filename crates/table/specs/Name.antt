@@ -9,26 +9,26 @@ use Rattle.table.specs.Row.{isZero}
 use Rattle.table.specs.declared.Name.{Name}
 
 -- The letters a-z.
-abbrev pub isLetter : ℕ → Bool
-isLetter b = within 97 122 b
+abbrev pub isLowercase : ℕ → Bool
+isLowercase b = within 97 122 b
 
 -- How many letters stand in front.
-unfoldable pub letterRun : List ℕ → ℕ
-letterRun [] = 0
-letterRun (b ∷ bs) = cond (isLetter b) (suc (letterRun bs)) 0
+unfoldable pub nameRun : List ℕ → ℕ
+nameRun [] = 0
+nameRun (b ∷ bs) = cond (isLowercase b) (suc (nameRun bs)) 0
 
 -- "A name has 1 to 8 letters a-z"; unused name letters are 0. There are `nameLength` places.
-unfoldable pub nameFits : Name → Bool
-nameFits name =
-    leb 1 (letterRun (name .letters))
-    && every isZero (drop (letterRun (name .letters)) (name .letters))
+unfoldable pub nameValid : Name → Bool
+nameValid name =
+    leb 1 (nameRun (name .chars))
+    && every isZero (drop (nameRun (name .chars)) (name .chars))
 
 -- "Unused names .. of a table value are 0."
 unfoldable pub nameUnused : Name → Bool
-nameUnused name = every isZero (name .letters)
+nameUnused name = every isZero (name .chars)
 
 abbrev pub sameName : Name → Name → Bool
-sameName a b = sameBytes (a .letters) (b .letters)
+sameName a b = sameBytes (a .chars) (b .chars)
 
 -- No name stands twice.
 unfoldable pub allDistinct : List Name → Bool

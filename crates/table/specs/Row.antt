@@ -4,7 +4,7 @@ use mathlib.Core.Bool.{Bool, _&&_}
 use mathlib.Core.List.{[]}
 use lib.Dec.{eqb}
 use lib.ListN.{getD}
-use Rattle.letters.specs.Letter.{inSet, setFits}
+use Rattle.letters.specs.Letter.{inSet, setValid}
 use Rattle.letters.specs.Lists.{within, every}
 use Rattle.table.specs.Limits.{mostTicks}
 use Rattle.table.specs.declared.Row.{Row}
@@ -33,14 +33,14 @@ abbrev pub holds : Row → ℕ → ℕ → Bool
 holds row condition letter = inSet (getD (row .sets) condition 0) letter
 
 -- "A bound is 0 to 60 ..; least is not above most."
-abbrev pub boundsFit : ℕ → ℕ → Bool
-boundsFit least most = within least mostTicks most
+abbrev pub boundsValid : ℕ → ℕ → Bool
+boundsValid least most = within least mostTicks most
 
 -- A row that a file with s signals can have.
-unfoldable pub rowFits : ℕ → Row → Bool
-rowFits s row =
-    boundsFit (row .tmin) (row .tmax) && boundsFit (row .lmin) (row .lmax)
-    && boundsFit (row .amin) (row .amax) && every (setFits s) (row .sets)
+unfoldable pub rowValid : ℕ → Row → Bool
+rowValid s row =
+    boundsValid (row .tmin) (row .tmax) && boundsValid (row .lmin) (row .lmax)
+    && boundsValid (row .amin) (row .amax) && every (setValid s) (row .sets)
 
 abbrev pub isZero : ℕ → Bool
 isZero n = eqb n 0

@@ -4,7 +4,7 @@ pub mod names;
 pub mod rows;
 
 ghost use mathlib.Core.Path.{_≡_};
-ghost use Rattle.table.specs.Valid.{tableFits};
+ghost use Rattle.table.specs.Valid.{tableValid};
 
 // The limits of document 01. specs/Limits.antt has them too.
 pub const MOST_SIGNALS: usize = 6;
@@ -13,7 +13,7 @@ pub const MOST_ROWS: usize = 8;
 
 pub const MOST_TICKS: u8 = 60;
 
-pub const NAME_LETTERS: usize = 8;
+pub const NAME_CHARS: usize = 8;
 
 // The places of a row's conditions, in the order of the file's fields.
 pub const CONDITIONS: usize = 6;
@@ -41,9 +41,9 @@ pub struct Row {
     pub amax: u8,
 }
 
-// A signal's name: its letters, then zeros.
+// A signal's name: its letters a-z, then zeros.
 pub struct Name {
-    pub letters: [u8; NAME_LETTERS],
+    pub chars: [u8; NAME_CHARS],
 }
 
 // A table value. The first `signals` names and the first `count` rows are used; the others are 0.
@@ -68,7 +68,7 @@ pub enum Outcome {
 
 // Whether number 17 lets a table value by.
 pub fn valid(table: Table) -> bool
-    ensures { λ r. ⌜ r ≡ tableFits table ⌝ }
+    ensures { λ r. ⌜ r ≡ tableValid table ⌝ }
 {
     let signals = table.signals as usize;
     let count = table.count as usize;
@@ -76,9 +76,9 @@ pub fn valid(table: Table) -> bool
     let rows = table.rows;
     letters::within(1, MOST_SIGNALS, signals)
         & letters::within(1, MOST_ROWS, count)
-        & names::used_fit(names, signals)
+        & names::used_valid(names, signals)
         & names::distinct(names, signals)
         & names::rest_unused(names, signals)
-        & rows::used_fit(table.signals, rows, count)
+        & rows::used_valid(table.signals, rows, count)
         & rows::rest_unused(rows, count)
 }

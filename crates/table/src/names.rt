@@ -1,28 +1,28 @@
 // Names that an accepted file can have. specs/Name.antt says what is right.
 use crate::MOST_SIGNALS;
-use crate::NAME_LETTERS;
+use crate::NAME_CHARS;
 use crate::Name;
 ghost use mathlib.Core.Path.{_≡_};
 ghost use lib.ListN.{take, drop};
 ghost use Rattle.letters.specs.Lists.{every, some};
 ghost use Rattle.table.specs.Row.{isZero};
-ghost use Rattle.table.specs.Name.{isLetter, letterRun, nameFits, nameUnused};
+ghost use Rattle.table.specs.Name.{isLowercase, nameRun, nameValid, nameUnused};
 ghost use Rattle.table.specs.Name.{sameName, allDistinct};
 
 // Whether a byte is a letter a-z.
-pub fn is_letter(b: u8) -> bool
-    ensures { λ r. ⌜ r ≡ isLetter b ⌝ }
+pub fn is_lowercase(b: u8) -> bool
+    ensures { λ r. ⌜ r ≡ isLowercase b ⌝ }
 {
     (b'a' <= b) & (b <= b'z')
 }
 
 // How many letters a name begins with.
-fn letter_run(letters: [u8; NAME_LETTERS]) -> usize
-    ensures { λ r. ⌜ r ≡ letterRun letters ⌝ }
+fn name_run(chars: [u8; NAME_CHARS]) -> usize
+    ensures { λ r. ⌜ r ≡ nameRun chars ⌝ }
 {
     let mut i: usize = 0;
-    while i < NAME_LETTERS {
-        if !is_letter(letters[i]) {
+    while i < NAME_CHARS {
+        if !is_lowercase(chars[i]) {
             return i;
         }
         i += 1;
@@ -31,12 +31,12 @@ fn letter_run(letters: [u8; NAME_LETTERS]) -> usize
 }
 
 // Whether a name is 0 from place n on.
-fn zero_from(letters: [u8; NAME_LETTERS], n: usize) -> bool
-    ensures { λ r. ⌜ r ≡ every isZero (drop n letters) ⌝ }
+fn zero_from(chars: [u8; NAME_CHARS], n: usize) -> bool
+    ensures { λ r. ⌜ r ≡ every isZero (drop n chars) ⌝ }
 {
     let mut i = n;
-    while i < NAME_LETTERS {
-        if letters[i] != 0 {
+    while i < NAME_CHARS {
+        if chars[i] != 0 {
             return false;
         }
         i += 1;
@@ -45,20 +45,20 @@ fn zero_from(letters: [u8; NAME_LETTERS], n: usize) -> bool
 }
 
 // Whether a name is 1 to 8 letters a-z, then zeros.
-pub fn name_fits(name: Name) -> bool
-    ensures { λ r. ⌜ r ≡ nameFits name ⌝ }
+pub fn name_valid(name: Name) -> bool
+    ensures { λ r. ⌜ r ≡ nameValid name ⌝ }
 {
-    let letters = name.letters;
-    let run = letter_run(letters);
-    (1 <= run) & zero_from(letters, run)
+    let chars = name.chars;
+    let run = name_run(chars);
+    (1 <= run) & zero_from(chars, run)
 }
 
 // Whether everything in a name is 0.
 pub fn name_unused(name: Name) -> bool
     ensures { λ r. ⌜ r ≡ nameUnused name ⌝ }
 {
-    let letters = name.letters;
-    zero_from(letters, 0)
+    let chars = name.chars;
+    zero_from(chars, 0)
 }
 
 // Whether two names are the same.
@@ -66,8 +66,8 @@ pub fn same_name(a: Name, b: Name) -> bool
     ensures { λ r. ⌜ r ≡ sameName a b ⌝ }
 {
     let mut i: usize = 0;
-    while i < NAME_LETTERS {
-        if a.letters[i] != b.letters[i] {
+    while i < NAME_CHARS {
+        if a.chars[i] != b.chars[i] {
             return false;
         }
         i += 1;
@@ -76,15 +76,15 @@ pub fn same_name(a: Name, b: Name) -> bool
 }
 
 // Whether the first n names are 1 to 8 letters each.
-pub fn used_fit(names: [Name; MOST_SIGNALS], n: usize) -> bool
-    ensures { λ r. ⌜ r ≡ every nameFits (take n names) ⌝ }
+pub fn used_valid(names: [Name; MOST_SIGNALS], n: usize) -> bool
+    ensures { λ r. ⌜ r ≡ every nameValid (take n names) ⌝ }
 {
     let mut i: usize = 0;
     while i < n {
         if MOST_SIGNALS <= i {
             return true;
         }
-        if !name_fits(names[i]) {
+        if !name_valid(names[i]) {
             return false;
         }
         i += 1;

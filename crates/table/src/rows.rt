@@ -5,24 +5,24 @@ use crate::MOST_TICKS;
 use crate::Row;
 ghost use mathlib.Core.Path.{_≡_};
 ghost use lib.ListN.{take, drop};
-ghost use Rattle.letters.specs.Letter.{setFits};
+ghost use Rattle.letters.specs.Letter.{setValid};
 ghost use Rattle.letters.specs.Lists.{every};
-ghost use Rattle.table.specs.Row.{boundsFit, rowFits, isZero, rowUnused};
+ghost use Rattle.table.specs.Row.{boundsValid, rowValid, isZero, rowUnused};
 
 // Whether a least and a most are those of a file.
-pub fn bounds_fit(least: u8, most: u8) -> bool
-    ensures { λ r. ⌜ r ≡ boundsFit least most ⌝ }
+pub fn bounds_valid(least: u8, most: u8) -> bool
+    ensures { λ r. ⌜ r ≡ boundsValid least most ⌝ }
 {
     (least <= most) & (most <= MOST_TICKS)
 }
 
 // Whether each set has only letters that so many signals have.
-fn sets_fit(signals: u8, sets: [u64; CONDITIONS]) -> bool
-    ensures { λ r. ⌜ r ≡ every (setFits signals) sets ⌝ }
+fn sets_valid(signals: u8, sets: [u64; CONDITIONS]) -> bool
+    ensures { λ r. ⌜ r ≡ every (setValid signals) sets ⌝ }
 {
     let mut i: usize = 0;
     while i < CONDITIONS {
-        if !letters::set_fits(signals, sets[i]) {
+        if !letters::set_valid(signals, sets[i]) {
             return false;
         }
         i += 1;
@@ -31,14 +31,14 @@ fn sets_fit(signals: u8, sets: [u64; CONDITIONS]) -> bool
 }
 
 // Whether a row is one that a file with so many signals can have.
-pub fn row_fits(signals: u8, row: Row) -> bool
-    ensures { λ r. ⌜ r ≡ rowFits signals row ⌝ }
+pub fn row_valid(signals: u8, row: Row) -> bool
+    ensures { λ r. ⌜ r ≡ rowValid signals row ⌝ }
 {
     let sets = row.sets;
-    bounds_fit(row.tmin, row.tmax)
-        & bounds_fit(row.lmin, row.lmax)
-        & bounds_fit(row.amin, row.amax)
-        & sets_fit(signals, sets)
+    bounds_valid(row.tmin, row.tmax)
+        & bounds_valid(row.lmin, row.lmax)
+        & bounds_valid(row.amin, row.amax)
+        & sets_valid(signals, sets)
 }
 
 fn sets_unused(sets: [u64; CONDITIONS]) -> bool
@@ -69,15 +69,15 @@ pub fn row_unused(row: Row) -> bool
 }
 
 // Whether the first n rows are such as a file with so many signals can have.
-pub fn used_fit(signals: u8, rows: [Row; MOST_ROWS], n: usize) -> bool
-    ensures { λ r. ⌜ r ≡ every (rowFits signals) (take n rows) ⌝ }
+pub fn used_valid(signals: u8, rows: [Row; MOST_ROWS], n: usize) -> bool
+    ensures { λ r. ⌜ r ≡ every (rowValid signals) (take n rows) ⌝ }
 {
     let mut i: usize = 0;
     while i < n {
         if MOST_ROWS <= i {
             return true;
         }
-        if !row_fits(signals, rows[i]) {
+        if !row_valid(signals, rows[i]) {
             return false;
         }
         i += 1;

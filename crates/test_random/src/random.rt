@@ -3,7 +3,7 @@
 use table::CONDITIONS;
 use table::MOST_ROWS;
 use table::MOST_SIGNALS;
-use table::NAME_LETTERS;
+use table::NAME_CHARS;
 use table::Name;
 use table::Row;
 use table::Table;
@@ -129,7 +129,7 @@ fn no_row() -> Row {
 
 fn no_name() -> Name {
     Name {
-        letters: [0u8; NAME_LETTERS],
+        chars: [0u8; NAME_CHARS],
     }
 }
 
@@ -139,7 +139,7 @@ fn names(signals: u8) -> [Name; MOST_SIGNALS] {
     for i in 0..MOST_SIGNALS {
         if i < signals as usize {
             let mut name = no_name();
-            name.letters[0] = b'a' + (i as u8);
+            name.chars[0] = b'a' + (i as u8);
             names[i] = name;
         }
     }

@@ -41,7 +41,7 @@ pub fn spoil(seed: u64, table: Table) -> Table {
         0 => bad.signals = 7,
         1 => bad.count = 0,
         2 => {
-            name.letters[0] = b'A';
+            name.chars[0] = b'A';
             bad.names[0] = name;
         }
         3 => bad.names[1] = name,

@@ -23,17 +23,17 @@ fn print_byte(before: &[u8], n: u8) {
 }
 
 // The letters up to a 0.
-fn print_letters(letters: &[u8]) {
-    let n = text::find(letters, 0);
-    if n <= letters.len() {
-        print(&letters[..n]);
+fn print_chars(chars: &[u8]) {
+    let n = text::find(chars, 0);
+    if n <= chars.len() {
+        print(&chars[..n]);
     }
 }
 
 fn print_name(name: Name) {
-    let letters = name.letters;
+    let chars = name.chars;
     print(b" ");
-    print_letters(&letters);
+    print_chars(&chars);
 }
 
 fn print_names(names: [Name; MOST_SIGNALS], count: u8) {

@@ -5,16 +5,18 @@ use mathlib.Core.Bool.{cond}
 use mathlib.Core.List.{List, [], _∷_, _++_}
 use mathlib.Core.Path.{_≡_}
 use lib.Dec.{ltb}
+use Rattle.table.specs.Limits.{mostTicks}
 
 -- A number in base ten, of at most k digits.
 unfoldable pub digits : ℕ → ℕ → List ℕ
 digits zero n = []
-digits (suc k) n = cond (ltb n 10) ((code "0" + n) ∷ []) (digits k (n / 10) ++ ((code "0" + n % 10) ∷ []))
+digits (suc k) n =
+    cond (ltb n 10) ((code "0" + n) ∷ []) (digits k (n / 10) ++ ((code "0" + n % 10) ∷ []))
 
 unfoldable pub decimal : ℕ → List ℕ
 decimal n = digits (suc n) n
 
 -- The bytes xs are the bound n.
 pub record IsBound (xs : List ℕ) (n : ℕ) : Type 0 where
-  pub small : n ≤ 60
+  pub small : n ≤ mostTicks
   pub bytes : decimal n ≡ xs

@@ -1,5 +1,6 @@
 // Bytes of a line: where one stands, how many there are, what it begins with; and bounds.
 // specs/inner/Cut.antt says what is computed, specs/Bounds.antt which bytes are bounds.
+use table::MOST_TICKS;
 ghost use mathlib.Core.Path.{_≡_};
 ghost use lib.ListN.{length};
 ghost use Rattle.text.specs.inner.Cut.{startsWith, front};
@@ -89,7 +90,7 @@ fn two_digits(a: u8, b: u8) -> Bound
         return Bound::Wrong;
     }
     let v = 10 * (a - b'0') + (b - b'0');
-    if v <= 60 {
+    if v <= MOST_TICKS {
         Bound::Value(v)
     } else {
         Bound::Wrong

@@ -3,5 +3,5 @@ pub mod System
 pub mod Trace
 pub mod Order
 pub mod Doomed
-pub mod Verdict
+pub mod Count
 pub mod inner

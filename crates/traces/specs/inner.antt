@@ -7,3 +7,6 @@ pub mod Least
 pub mod Entries
 pub mod Answer
 pub mod Lists
+pub mod Survival
+pub mod Verdicts
+pub mod Lawful

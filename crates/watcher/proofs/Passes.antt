@@ -11,17 +11,17 @@ use borrow.Author.Tests.{lt-ltb, le-ltb, lt-leb}
 use lib.Dec.{ltb}
 use lib.ListN.{length, getD, set, take, drop, length-append, drop-of-length-le}
 use lib.Seq.{set-at, getD-at, append-snoc, drop-cons}
-use Rattle.letters.specs.Letter.{letterFits}
+use Rattle.letters.specs.Letter.{letterValid}
 use Rattle.letters.specs.Lists.{within, every}
 use Rattle.table.specs.Limits.{mostSignals, mostRows}
-use Rattle.table.specs.Row.{rowFits, noRow}
-use Rattle.table.specs.Valid.{rulesFit}
+use Rattle.table.specs.Row.{rowValid, noRow}
+use Rattle.table.specs.Valid.{rowsValid}
 use Rattle.table.specs.declared.Row.{Row}
 use Rattle.step.specs.declared.Phase.{Phase}
 use Rattle.step.specs.declared.Phase.the-variants.{Waiting}
 use Rattle.step.specs.Step.{stepRow}
 use Rattle.step.specs.Tick.{tick}
-use Rattle.step.specs.Fits.{phaseFits, isWaiting, phasesFit}
+use Rattle.step.specs.Valid.{phaseValid, isWaiting, phasesValid}
 use Rattle.watcher.specs.declared.Slot.{Slot}
 use Rattle.watcher.specs.declared.Watch.{Watch}
 use Rattle.watcher.specs.declared.pass.Pass.{Pass}
@@ -47,8 +47,8 @@ taken : Pass → ℕ → Row → Pass
 taken pass i row = record {
   signals = pass .signals;
   letter = pass .letter;
-  rules = pass .rules && rowFits (pass .signals) row;
-  phases = pass .phases && phaseFits row (phaseAt (pass .watch) i);
+  rules = pass .rules && rowValid (pass .signals) row;
+  phases = pass .phases && phaseValid row (phaseAt (pass .watch) i);
   watch = moved (pass .watch) i row (pass .letter);
 }
 
@@ -93,8 +93,8 @@ phasesIn slots = map (λ (slot : Slot). slot .phase) slots
 record Found (rows : List Row) (pass : Pass) (passed ahead : List Slot) (done : Pass) : Type 0 where
   signals : done .signals ≡ pass .signals
   letter : done .letter ≡ pass .letter
-  rules : done .rules ≡ (pass .rules && every (rowFits (pass .signals)) rows)
-  phases : done .phases ≡ (pass .phases && phasesFit rows (take (length rows) (phasesIn ahead)))
+  rules : done .rules ≡ (pass .rules && every (rowValid (pass .signals)) rows)
+  phases : done .phases ≡ (pass .phases && phasesValid rows (take (length rows) (phasesIn ahead)))
   slots : done .watch .slots ≡ passed ++ map slotOf (tick rows (pass .letter) (phasesIn ahead))
 
 -- The state after row i is moved on, and the phase that it had.
@@ -122,7 +122,7 @@ pass-finds : (rows : List Row) (i : ℕ) (pass : Pass) (passed ahead : List Slot
     → pass .watch .slots ≡ passed ++ ahead → length passed ≡ i → i + length ahead ≡ mostRows
     → length rows ≤ length ahead
     → Found rows pass passed ahead (passOver rows i pass)
-unfolding passOver tick every phasesFit taken
+unfolding passOver tick every phasesValid taken
 pass-finds [] i pass passed ahead e n m h = record {
   signals = refl;
   letter = refl;
@@ -141,13 +141,13 @@ pass-finds (row ∷ rows) i pass passed (slot ∷ ahead) e n m h =
     rw (taken-low pass i row (omega arith)) (record {
       signals = rest .signals;
       letter = rest .letter;
-      rules = rest .rules ∙ and-assoc (pass .rules) (rowFits (pass .signals) row)
-          (every (rowFits (pass .signals)) rows);
+      rules = rest .rules ∙ and-assoc (pass .rules) (rowValid (pass .signals) row)
+          (every (rowValid (pass .signals)) rows);
       phases = rest .phases
-          ∙ and-assoc (pass .phases) (phaseFits row (phaseAt (pass .watch) i))
-          (phasesFit rows (take (length rows) (phasesIn ahead)))
+          ∙ and-assoc (pass .phases) (phaseValid row (phaseAt (pass .watch) i))
+          (phasesValid rows (take (length rows) (phasesIn ahead)))
           ∙ ap (λ (p : Phase). pass .phases &&
-          (phaseFits row p && phasesFit rows (take (length rows) (phasesIn ahead))))
+          (phaseValid row p && phasesValid rows (take (length rows) (phasesIn ahead))))
           (taken-phase pass passed ahead slot i e n);
       slots = rest .slots ∙ append-snoc passed (slotOf (stepRow row (pass .letter) (slot .phase)))
           (map slotOf (tick rows (pass .letter) (phasesIn ahead)));
@@ -155,25 +155,25 @@ pass-finds (row ∷ rows) i pass passed (slot ∷ ahead) e n m h =
 
 -- Number 18 over all phases: those of the rows, and those beyond them.
 fits-parts : (rows : List Row) (phases : List Phase) → length rows ≤ length phases
-    → phasesFit rows phases ≡ (phasesFit rows (take (length rows) phases) && every isWaiting
+    → phasesValid rows phases ≡ (phasesValid rows (take (length rows) phases) && every isWaiting
     (drop (length rows) phases))
-unfolding phasesFit every
+unfolding phasesValid every
 fits-parts [] phases h = refl
 fits-parts (row ∷ rows) [] h = absurd (omega arith)
 fits-parts (row ∷ rows) (phase ∷ phases) h =
     rw (fits-parts rows phases (omega arith))
-    (sym (and-assoc (phaseFits row phase) (phasesFit rows (take (length rows) phases))
+    (sym (and-assoc (phaseValid row phase) (phasesValid rows (take (length rows) phases))
     (every isWaiting (drop (length rows) phases))))
 
 -- What `finish` makes of what a pass found.
 finish-same : (pass : Pass) (watch moved : Watch) (rules state letters : Bool) → pass .rules ≡ rules
-    → pass .phases ≡ state → letterFits (pass .signals) (pass .letter) ≡ letters
+    → pass .phases ≡ state → letterValid (pass .signals) (pass .letter) ≡ letters
     → pass .watch ≡ moved
     → finished pass watch ≡ answered (firstNumber rules state letters) moved watch
 unfolding finished
 finish-same pass watch moved rules state letters r p l m =
     ap₂ (λ (n : ℕ) (w : Watch). answered n w watch)
-    (ap₂ (λ (a b : Bool). firstNumber a b (letterFits (pass .signals) (pass .letter))) r p
+    (ap₂ (λ (a b : Bool). firstNumber a b (letterValid (pass .signals) (pass .letter))) r p
     ∙ ap (λ (c : Bool). firstNumber rules state c) l) m
 
 -- Under number 17 what was moved does not matter.
@@ -189,33 +189,33 @@ module _ (s : ℕ) (rows : List Row) (watch : Watch) (letter : ℕ)
     last = passOver rows 0 (begun s (length rows) watch letter)
 
     few : length rows ≤ mostRows → finished last watch ≡ tickAnswer s rows watch letter
-    unfolding tickAnswer begun rulesFit
+    unfolding tickAnswer begun rowsValid
     few h =
         let found = pass-finds rows 0 (begun s (length rows) watch letter) [] (watch .slots) refl
         refl
         (omega arith) (omega arith) in
-        finish-same last watch (watchOf (tick rows letter (phasesOf watch))) (rulesFit s rows)
-        (phasesFit rows (phasesOf watch))
-        (letterFits s letter) (found .rules)
+        finish-same last watch (watchOf (tick rows letter (phasesOf watch))) (rowsValid s rows)
+        (phasesValid rows (phasesOf watch))
+        (letterValid s letter) (found .rules)
         (found .phases ∙ and-comm (every isWaiting (drop (length rows) (phasesOf watch)))
-        (phasesFit rows (take (length rows) (phasesOf watch)))
+        (phasesValid rows (take (length rows) (phasesOf watch)))
         ∙ sym (fits-parts rows (phasesOf watch) (rw phases-length (omega arith))))
-        (ap₂ letterFits (found .signals) (found .letter))
+        (ap₂ letterValid (found .signals) (found .letter))
         (ap (λ (l : List Slot). record { slots = l }) (found .slots))
 
     many : mostRows < length rows → finished last watch ≡ tickAnswer s rows watch letter
-    unfolding tickAnswer begun rulesFit
+    unfolding tickAnswer begun rowsValid
     many h =
         let over : (within 1 mostSignals s && within 1 mostRows (length rows)) ≡ false =
         simp (lt-leb (length rows) mostRows h, and-false) in
         finish-same last watch (last .watch) false (last .phases)
-        (letterFits (last .signals) (last .letter))
+        (letterValid (last .signals) (last .letter))
         (rules-down rows 0 (begun s (length rows) watch letter) over) refl refl refl
-        ∙ rules-refused (last .phases) (letterFits (last .signals) (last .letter))
-        (phasesFit rows (phasesOf watch))
-        (letterFits s letter) (last .watch) (watchOf (tick rows letter (phasesOf watch))) watch
-        ∙ ap (λ (b : Bool). answered (firstNumber (b && every (rowFits s) rows)
-        (phasesFit rows (phasesOf watch)) (letterFits s letter))
+        ∙ rules-refused (last .phases) (letterValid (last .signals) (last .letter))
+        (phasesValid rows (phasesOf watch))
+        (letterValid s letter) (last .watch) (watchOf (tick rows letter (phasesOf watch))) watch
+        ∙ ap (λ (b : Bool). answered (firstNumber (b && every (rowValid s) rows)
+        (phasesValid rows (phasesOf watch)) (letterValid s letter))
         (watchOf (tick rows letter (phasesOf watch))) watch) (sym over)
 
     pub pass-answer : finished last watch ≡ tickAnswer s rows watch letter

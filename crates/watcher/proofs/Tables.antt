@@ -9,39 +9,40 @@ use borrow.Author.Tests.{lt-ltb}
 use lib.ListN.{length, getD, take}
 use lib.Pow.{pow-pos}
 use lib.Seq.{length-take-le, take-all, take-suc}
-use Rattle.letters.specs.Letter.{letters, letterFits}
+use Rattle.letters.specs.Letter.{letters, letterValid}
 use Rattle.letters.specs.Lists.{every}
 use Rattle.letters.proofs.Lists.{every-at, every-append}
-use Rattle.table.specs.Valid.{rowsOf, tableFits}
+use Rattle.table.specs.Valid.{rowsOf, tableValid}
 use Rattle.table.specs.declared.Table.{Table}
 use Rattle.table.specs.declared.Refusal.{Refusal}
-use Rattle.table.proofs.Laws.{tableFits-rules, tableFits-count}
+use Rattle.table.proofs.Laws.{tableValid-rows, tableValid-count}
 use Rattle.traces.specs.System.{System}
 use Rattle.traces.specs.Trace.{run}
 use Rattle.traces.proofs.Runs.{run-snoc, not-both}
 use Rattle.step.specs.declared.Phase.{Phase}
 use Rattle.step.specs.Tick.{tick, tableSystem}
-use Rattle.step.specs.Fits.{phasesFit}
-use Rattle.step.proofs.Systems.{run-fits}
+use Rattle.step.specs.Valid.{phasesValid}
+use Rattle.step.proofs.Systems.{run-valid}
 use Rattle.table.specs.declared.Outcome.the-variants.{Accepted, Refused}
 use Rattle.watcher.specs.declared.Watch.{Watch}
 use Rattle.watcher.specs.Watch.{phasesOf, watchOf}
-use Rattle.watcher.specs.Answer.{firstNumber, refusedWith, answered, tickAnswer, tableTick}
-use Rattle.watcher.specs.Answer.{tablePlay}
+use Rattle.watcher.specs.Answer.{firstNumber, refusedWith, answered, tickAnswer}
+use Rattle.watcher.specs.inner.Tables.{tableTick}
+use Rattle.watcher.specs.inner.Tables.{tablePlay}
 use Rattle.watcher.specs.inner.Pass.{begun, passOver, finished}
 use Rattle.watcher.proofs.Passes.{pass-answer}
 use Rattle.table.specs.Limits.{mostRows}
 use Rattle.watcher.proofs.Records.{watch-phases, phases-watch}
 
-pub rows-length : (table : Table) → length (table .rows) ≡ mostRows → tableFits table ≡ true
+pub rows-length : (table : Table) → length (table .rows) ≡ mostRows → tableValid table ≡ true
     → length (rowsOf table) ≡ table .count
 rows-length table all fits = length-take-le (table .count) (table .rows)
-    (omega (arith, tableFits-count table fits))
+    (omega (arith, tableValid-count table fits))
 
 -- What a pass over the rows of a table value gives.
 pub table-answer : (table : Table) (watch : Watch) (letter : ℕ) → length (table .rows) ≡ mostRows
     → length (watch .slots) ≡ mostRows
-    → tableFits table ≡ true
+    → tableValid table ≡ true
     → finished (passOver (rowsOf table) 0 (begun (table .signals) (table .count) watch letter))
     watch ≡ tableTick table watch letter
 unfolding tickAnswer tableTick
@@ -49,12 +50,12 @@ table-answer table watch letter rows8 slots8 fits =
     ap (λ (n : ℕ). finished (passOver (rowsOf table) 0 (begun (table .signals) n watch letter))
     watch) (sym (rows-length table rows8 fits))
     ∙ pass-answer (table .signals) (rowsOf table) watch letter slots8
-    ∙ ap (λ (b : Bool). answered (firstNumber b (phasesFit (rowsOf table) (phasesOf watch))
-    (letterFits (table .signals) letter))
+    ∙ ap (λ (b : Bool). answered (firstNumber b (phasesValid (rowsOf table) (phasesOf watch))
+    (letterValid (table .signals) letter))
     (watchOf (tick (rowsOf table) letter (phasesOf watch))) watch)
-    (tableFits-rules table fits ∙ sym fits)
+    (tableValid-rows table fits ∙ sym fits)
 
-pub table-refused : (table : Table) (watch : Watch) (letter : ℕ) → tableFits table ≡ false
+pub table-refused : (table : Table) (watch : Watch) (letter : ℕ) → tableValid table ≡ false
     → refusedWith 17 watch ≡ tableTick table watch letter
 unfolding tableTick answered
 table-refused table watch letter fails = rw fails
@@ -105,13 +106,13 @@ refuses-letter false b c moved watch r p q h = absurd (let z : _≡_ {A = ℕ} 0
 -- What holds while the first i letters of a trace have been played.
 pub record Playing (table : Table) (watch : Watch) (trace : List ℕ) (last : Watch) (i : ℕ) : Type 0
   where
-    pub rules : tableFits table ≡ true
-    pub state : phasesFit (rowsOf table) (phasesOf watch) ≡ true
-    pub letters : every (letterFits (table .signals)) (take i trace) ≡ true
+    pub rules : tableValid table ≡ true
+    pub state : phasesValid (rowsOf table) (phasesOf watch) ≡ true
+    pub letters : every (letterValid (table .signals)) (take i trace) ≡ true
     pub moved : last ≡ watchOf (run (tableSystem (table .signals) (rowsOf table)) (phasesOf watch)
         (take i trace))
 
-zero-fits : (s : ℕ) → letterFits s 0 ≡ true
+zero-fits : (s : ℕ) → letterValid s 0 ≡ true
 zero-fits s = lt-ltb 0 (letters s) (pow-pos s)
 
 module _ (table : Table) (watch : Watch) (trace : List ℕ) where
@@ -123,17 +124,17 @@ module _ (table : Table) (watch : Watch) (trace : List ℕ) where
       → tableTick table watch 0 ≡ tablePlay table watch trace
   unfolding tableTick tablePlay
   playing-refused r h =
-      refuses-early (tableFits table) (phasesFit (rowsOf table) (phasesOf watch))
-      (letterFits (table .signals) 0)
-      (every (letterFits (table .signals)) trace) (watchOf (tick (rowsOf table) 0 (phasesOf watch)))
+      refuses-early (tableValid table) (phasesValid (rowsOf table) (phasesOf watch))
+      (letterValid (table .signals) 0)
+      (every (letterValid (table .signals)) trace) (watchOf (tick (rowsOf table) 0 (phasesOf watch)))
       (watchOf (run X (phasesOf watch) trace)) watch r (zero-fits (table .signals)) h
 
   pub playing-starts : tableTick table watch 0 .outcome ≡ Accepted
       → Playing table watch trace watch 0
   unfolding tableTick every run
   playing-starts h =
-      let passed = accepts (tableFits table) (phasesFit (rowsOf table) (phasesOf watch))
-      (letterFits (table .signals) 0) _ watch h in
+      let passed = accepts (tableValid table) (phasesValid (rowsOf table) (phasesOf watch))
+      (letterValid (table .signals) 0) _ watch h in
       record {
         rules = passed .0;
         state = passed .1;
@@ -149,8 +150,8 @@ module _ (table : Table) (watch : Watch) (trace : List ℕ) where
     last-phases : phasesOf last ≡ phases
     last-phases = ap phasesOf (p .moved) ∙ phases-watch phases
 
-    last-fits : phasesFit (rowsOf table) (phasesOf last) ≡ true
-    last-fits = rw last-phases (run-fits (table .signals) (rowsOf table) (phasesOf watch)
+    last-fits : phasesValid (rowsOf table) (phasesOf last) ≡ true
+    last-fits = rw last-phases (run-valid (table .signals) (rowsOf table) (phasesOf watch)
         (take i trace) (p .state))
 
     pub playing-next : i < length trace → tableTick table last (getD trace i 0) .outcome ≡ Accepted
@@ -159,8 +160,8 @@ module _ (table : Table) (watch : Watch) (trace : List ℕ) where
     playing-next h e =
         let l = getD trace i 0 in
         let next = watchOf (tick (rowsOf table) l (phasesOf last)) in
-        let passed = accepts (tableFits table) (phasesFit (rowsOf table) (phasesOf last))
-        (letterFits (table .signals) l) next last e in
+        let passed = accepts (tableValid table) (phasesValid (rowsOf table) (phasesOf last))
+        (letterValid (table .signals) l) next last e in
         let more : take (i + 1) trace ≡ take i trace ++ (l ∷ []) =
         ap (λ (k : ℕ). take k trace) (add-one i) ∙ take-suc trace i 0 h in
         record {
@@ -168,13 +169,13 @@ module _ (table : Table) (watch : Watch) (trace : List ℕ) where
           state = p .state;
           letters = rw (
             more,
-            every-append (letterFits (table .signals)) (take i trace) (l ∷ []),
+            every-append (letterValid (table .signals)) (take i trace) (l ∷ []),
             p
                 .letters,
             passed .2,
           );
-          moved = accepts-moves (tableFits table) (phasesFit (rowsOf table) (phasesOf last))
-              (letterFits (table .signals) l) next last e
+          moved = accepts-moves (tableValid table) (phasesValid (rowsOf table) (phasesOf last))
+              (letterValid (table .signals) l) next last e
               ∙ ap watchOf (ap (tick (rowsOf table) l) last-phases
               ∙ sym (run-snoc X (phasesOf watch) (take i trace) l)
               ∙ ap (run X (phasesOf watch)) (sym more));
@@ -184,18 +185,18 @@ module _ (table : Table) (watch : Watch) (trace : List ℕ) where
         → tableTick table last (getD trace i 0) .outcome ≡ Refused r
         → refusedWith 19 watch ≡ tablePlay table watch trace
     unfolding tableTick tablePlay answered
-    playing-stops r h e = go (every (letterFits (table .signals)) trace) refl
+    playing-stops r h e = go (every (letterValid (table .signals)) trace) refl
       where
-        too-large : letterFits (table .signals) (getD trace i 0) ≡ false
+        too-large : letterValid (table .signals) (getD trace i 0) ≡ false
         too-large =
-            refuses-letter (tableFits table) (phasesFit (rowsOf table) (phasesOf last))
-            (letterFits (table .signals) (getD trace i 0))
+            refuses-letter (tableValid table) (phasesValid (rowsOf table) (phasesOf last))
+            (letterValid (table .signals) (getD trace i 0))
             (watchOf (tick (rowsOf table) (getD trace i 0) (phasesOf last))) last r (p .rules)
             last-fits e
 
-        go : (b : Bool) → every (letterFits (table .signals)) trace ≡ b
+        go : (b : Bool) → every (letterValid (table .signals)) trace ≡ b
             → refusedWith 19 watch ≡ tablePlay table watch trace
-        go true all = absurd (not-both _ (every-at (letterFits (table .signals)) trace i 0 all h)
+        go true all = absurd (not-both _ (every-at (letterValid (table .signals)) trace i 0 all h)
             too-large)
         go false all = rw (p .rules, p .state, all)
 

@@ -2,16 +2,13 @@
 use Prim.Native.Nat.{ℕ, zero, suc}
 use mathlib.Core.Bool.{Bool, cond}
 use mathlib.Core.List.{List}
-use Rattle.letters.specs.Letter.{letterFits}
-use Rattle.letters.specs.Lists.{every}
+use Rattle.letters.specs.Letter.{letterValid}
 use Rattle.table.specs.Refusal.{refusedAt}
-use Rattle.table.specs.Valid.{rulesFit, rowsOf, tableFits}
+use Rattle.table.specs.Valid.{rowsValid}
 use Rattle.table.specs.declared.Row.{Row}
-use Rattle.table.specs.declared.Table.{Table}
 use Rattle.table.specs.declared.Outcome.the-variants.{Accepted}
-use Rattle.traces.specs.Trace.{run}
-use Rattle.step.specs.Tick.{tick, tableSystem}
-use Rattle.step.specs.Fits.{phasesFit}
+use Rattle.step.specs.Tick.{tick}
+use Rattle.step.specs.Valid.{phasesValid}
 use Rattle.watcher.specs.declared.Ticked.{Ticked}
 use Rattle.watcher.specs.declared.Watch.{Watch}
 use Rattle.watcher.specs.Watch.{phasesOf, watchOf}
@@ -33,21 +30,5 @@ answered (suc n) moved watch = refusedWith (suc n) watch
 -- when refused, and accepts code 255."
 unfoldable pub tickAnswer : ℕ → List Row → Watch → ℕ → Ticked
 tickAnswer s rows watch letter =
-    answered (firstNumber (rulesFit s rows) (phasesFit rows (phasesOf watch)) (letterFits s letter))
+    answered (firstNumber (rowsValid s rows) (phasesValid rows (phasesOf watch)) (letterValid s letter))
     (watchOf (tick rows letter (phasesOf watch))) watch
-
--- The same of a table value, of which number 17 tests every place.
-unfoldable pub tableTick : Table → Watch → ℕ → Ticked
-tableTick table watch letter =
-    answered
-    (firstNumber (tableFits table) (phasesFit (rowsOf table) (phasesOf watch))
-    (letterFits (table .signals) letter))
-    (watchOf (tick (rowsOf table) letter (phasesOf watch))) watch
-
--- All letters of a trace, one tick each: number 19 is for any of them.
-unfoldable pub tablePlay : Table → Watch → List ℕ → Ticked
-tablePlay table watch trace =
-    answered
-    (firstNumber (tableFits table) (phasesFit (rowsOf table) (phasesOf watch))
-    (every (letterFits (table .signals)) trace))
-    (watchOf (run (tableSystem (table .signals) (rowsOf table)) (phasesOf watch) trace)) watch

@@ -16,7 +16,8 @@ ghost use Prim.Native.Nat.{_+_, min};
 ghost use lib.ListN.{take};
 ghost use Rattle.table.specs.Limits.{mostRows};
 ghost use Rattle.watcher.specs.Watch.{startWatch};
-ghost use Rattle.watcher.specs.Answer.{tickAnswer, tableTick, tablePlay};
+ghost use Rattle.watcher.specs.Answer.{tickAnswer};
+ghost use Rattle.watcher.specs.inner.Tables.{tableTick, tablePlay};
 
 // The rows that a program can lend by `tick_lent`: one more than a table has, which is refused.
 pub const MOST_LENT: usize = MOST_ROWS + 1;

@@ -11,7 +11,7 @@ use table::Row;
 ghost use mathlib.Core.Path.{_≡_};
 ghost use lib.ListN.{take, drop};
 ghost use Rattle.letters.specs.Lists.{every};
-ghost use Rattle.step.specs.Fits.{isWaiting};
+ghost use Rattle.step.specs.Valid.{isWaiting};
 ghost use Rattle.watcher.specs.Watch.{phasesOf};
 ghost use Rattle.watcher.specs.Answer.{refusedWith};
 ghost use Rattle.watcher.specs.inner.Pass.{begun, rowTaken, passOver, finished};
@@ -83,8 +83,8 @@ pub(crate) fn take_row(pass: Pass, i: usize, row: Row) -> Pass
     Pass {
         signals: pass.signals,
         letter: pass.letter,
-        rules: pass.rules & table::rows::row_fits(pass.signals, row),
-        phases: pass.phases & step::phase_fits(row, phase),
+        rules: pass.rules & table::rows::row_valid(pass.signals, row),
+        phases: pass.phases & step::phase_valid(row, phase),
         watch: moved,
     }
 }
@@ -110,14 +110,14 @@ pub(crate) fn finish(pass: Pass, watch: Watch) -> Ticked
     ensures { λ r. ⌜ r ≡ finished pass watch ⌝ }
 {
     let after = pass.watch;
-    let letter_fits = letters::letter_fits(pass.signals, pass.letter);
+    let letter_valid = letters::letter_valid(pass.signals, pass.letter);
     if !pass.rules {
         return refused(17, watch);
     }
     if !pass.phases {
         return refused(18, watch);
     }
-    if !letter_fits {
+    if !letter_valid {
         return refused(19, watch);
     }
     Ticked {

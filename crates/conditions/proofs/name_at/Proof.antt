@@ -5,7 +5,7 @@ use native.Mathlib.Omega.{arith}
 use mathlib.Core.Logic.{⊎-elim}
 use mathlib.Core.Path.{_≡_}
 use lib.ListN.{length, take, length-take}
-use Rattle.conditions.proofs.Names.{nameAt-none, nameAt-long, nameAt-some, letterRun-ends}
+use Rattle.conditions.proofs.Names.{nameAt-none, nameAt-long, nameAt-some, nameRun-ends}
 use Rattle.conditions.proofs.name_at.Statement.{statement}
 use Rattle.conditions.proofs.name_at.Tie as tie
 
@@ -19,7 +19,7 @@ returns-2 c = nameAt-long _ _ _ _ (c .before .before .run-at .ensures) (omega ar
 ends : (c : tie.Else2)
     → c .before .before .before .before .args .at + c .before .before .run-at .result
     ≤ length (c .before .before .before .before .args .s .now)
-ends c = letterRun-ends _ _ (c .before .before .run-at .ensures) (c .before .if1 .left)
+ends c = nameRun-ends _ _ (c .before .before .run-at .ensures) (c .before .if1 .left)
 
 sub-name-of : tie.Need-sub-name-of
 sub-name-of c = omega (arith, ends c)

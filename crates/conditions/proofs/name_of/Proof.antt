@@ -21,11 +21,11 @@ abbrev μ-loop : tie.MeasureT-loop
 -- The i letters filled in are the name.
 ends : (c : tie.At-loop Inv-loop μ-loop)
     → min (length (take (c .before .args .n) (c .before .args .s .now))) 8 ≤ c .loop .i
-    → record { letters = c .loop .letters }
+    → record { chars = c .loop .chars }
     ≡ nameOf (take (c .before .args .n) (c .before .args .s .now))
 ends c past =
     let inv = c .loop .inv in
-    nameOf-filled _ (c .loop .letters) (c .loop .i) (inv .2) (inv .0) (inv .1) past
+    nameOf-filled _ (c .loop .chars) (c .loop .i) (inv .2) (inv .0) (inv .1) past
 
 returns : tie.Need-returns Inv-loop μ-loop
 returns c = ends (c .before .before) (rw length-take (omega arith))

@@ -9,7 +9,8 @@ use lib.Dec.{ltb, eqb}
 use lib.ListN.{getD, length, take, drop}
 use lib.Bits.{bitAnd, bitOr}
 use Rattle.conditions.specs.Condition.{Kind, choice, term, factor, nameOf, place}
-use Rattle.table.specs.Name.{letterRun}
+use Rattle.table.specs.Limits.{nameLength}
+use Rattle.table.specs.Name.{nameRun}
 use Rattle.table.specs.declared.Name.{Name}
 use Rattle.letters.specs.Letter.{inSet, signalOn, setOf}
 use Rattle.conditions.specs.declared.Read.{Read}
@@ -50,14 +51,14 @@ module _ (names : List Name) (n : ℕ) (s : List ℕ) where
 
   -- the longest run of letters: none and over 8 are no name
   unfoldable pub nameAt : ℕ → ℕ → Read
-  nameAt at r = cond (eqb r 0 || ltb 8 r) Nothing
+  nameAt at r = cond (eqb r 0 || ltb nameLength r) Nothing
       (signal (place names (nameOf (take r (drop at s)))) (at + r))
 
   unfoldable pub digitAt : ℕ → Read
   digitAt at =
       cond (isAt s at (code "0")) (Set 0 false (at + 1))
       (cond (isAt s at (code "1")) (Set (setOf n (λ _. true)) false (at + 1))
-      (nameAt at (letterRun (drop at s))))
+      (nameAt at (nameRun (drop at s))))
 
   unfoldable pub reads : ℕ → Kind → ℕ → Read
   reads zero k at = Nothing

@@ -8,7 +8,7 @@ use lib.Dec.{eqb}
 use lib.ListN.{length}
 use Rattle.letters.specs.Letter.{signalOn, setOf}
 use Rattle.letters.specs.Lists.{sameBytes}
-use Rattle.table.specs.Valid.{tableFits, rowsOf}
+use Rattle.table.specs.Valid.{tableValid, rowsOf}
 use Rattle.table.specs.declared.Row.{Row}
 use Rattle.table.specs.declared.Table.{Table}
 use Rattle.traces.specs.Trace.{run}
@@ -91,7 +91,7 @@ isRight (traps rows w k n) = trappedWith w k n (answer (tableSystem 2 rows) same
 -- value with those rows and all lent memory that holds the states and the trace.
 abbrev pub CaseMeans : Case → Type 0
 CaseMeans (after row letters code) = codeOf (run (rowSystem 2 row) Waiting letters) ≡ code
-CaseMeans (traps rows w k n) = (table : Table) (lent : Lent) → tableFits table ≡ true
+CaseMeans (traps rows w k n) = (table : Table) (lent : Lent) → tableValid table ≡ true
     → table .signals ≡ 2 → rowsOf table ≡ rows → n ≤ roomOf lent
     → length w ≤ length (lent .trace)
     → (held : Lent) × Entered table n lent held

@@ -5,9 +5,10 @@ use mathlib.Core.Bool.{true, false}
 use mathlib.Core.List.{List}
 use mathlib.Core.Path.{_≡_}
 use lib.ListN.{length}
-use Rattle.table.specs.Valid.{tableFits}
+use Rattle.table.specs.Valid.{tableValid}
 use Rattle.table.specs.declared.Table.{Table}
-use Rattle.traces.specs.Verdict.{ReachedMany, Trapped, Sound}
+use Rattle.traces.specs.Count.{ReachedMany}
+use Rattle.traces.specs.inner.Verdicts.{Trapped, Sound}
 use Rattle.verdict.specs.Found.{refusedFound, soundFound, trappedFound}
 use Rattle.search.specs.Lent.{Lent, Searched, roomOf, systemOf, cleared, traced}
 use Rattle.search.specs.inner.Computed.{entriesWithin, filled}
@@ -18,9 +19,9 @@ abbrev pub withEntries : Table → Lent → Lent
 withEntries table lent = filled table (entriesWithin (roomOf lent) table) lent
 
 pub data ComputedAnswer (table : Table) (lent : Lent) : Searched → Type 0 where
-  is17 : tableFits table ≡ false
+  is17 : tableValid table ≡ false
       → ComputedAnswer table lent (record { found = refusedFound 17; lent = lent })
-  is20 : tableFits table ≡ true → ReachedMany (systemOf table) (suc (roomOf lent))
+  is20 : tableValid table ≡ true → ReachedMany (systemOf table) (suc (roomOf lent))
       → ComputedAnswer table lent (record { found = refusedFound 20; lent = cleared lent })
   is21 : {n k : ℕ} {w : List ℕ} → Fit table lent n → Trapped (systemOf table) w k
       → length (lent .trace) < length w

@@ -8,12 +8,12 @@ use mathlib.Core.Path.{_≡_, sym, _∙_}
 use lib.ListN.{length, drop}
 use Rattle.letters.specs.Lists.{every}
 use Rattle.letters.proofs.Lists.{every-next, every-stop, every-end}
-use Rattle.table.specs.Name.{isLetter}
+use Rattle.table.specs.Name.{isLowercase}
 use Rattle.header.proofs.is_name.Statement.{statement}
 use Rattle.header.proofs.is_name.Tie as tie
 
 abbrev Inv-loop : tie.InvT-loop
-Inv-loop s i₀ i = every isLetter s ≡ every isLetter (drop i s)
+Inv-loop s i₀ i = every isLowercase s ≡ every isLowercase (drop i s)
 
 abbrev μ-loop : tie.MeasureT-loop
 μ-loop s i₀ i = length s - i
@@ -27,20 +27,20 @@ returns-2 c = sym (name-long _ (c .if2 .taken))
 returns-3 : tie.Need-returns-3 Inv-loop μ-loop
 returns-3 c =
     let q = c .before .before .before .before in
-    sym (name-other _ (q .loop .inv ∙ every-stop isLetter _ (q .loop .i) 0 (search needs)
-    (sym (c .before .is-letter .ensures) ∙ not-true _ (c .if3 .taken))))
+    sym (name-other _ (q .loop .inv ∙ every-stop isLowercase _ (q .loop .i) 0 (search needs)
+    (sym (c .before .is-lowercase .ensures) ∙ not-true _ (c .if3 .taken))))
 
 loop-again : tie.Need-loop-again Inv-loop μ-loop
 loop-again c =
     let q = c .before .before .before .before in
-    q .loop .inv ∙ every-next isLetter _ (q .loop .i) 0 (search needs)
-    (sym (c .before .is-letter .ensures) ∙ not-false _ (c .if3 .left))
+    q .loop .inv ∙ every-next isLowercase _ (q .loop .i) 0 (search needs)
+    (sym (c .before .is-lowercase .ensures) ∙ not-false _ (c .if3 .left))
 
 returns-4 : tie.Need-returns-4 Inv-loop μ-loop
 returns-4 c =
     let q = c .before in
     sym (name-is _ (q .before .before .if1 .left) (q .before .if2 .left)
-    (q .loop .inv ∙ every-end isLetter _ (q .loop .i) (c .loop-test .left)))
+    (q .loop .inv ∙ every-end isLowercase _ (q .loop .i) (c .loop-test .left)))
 
 pub is-name-spec : {M : Type 1} → statement M
 is-name-spec =

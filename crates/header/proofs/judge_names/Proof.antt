@@ -1,8 +1,7 @@
 -- `header::judge_names` meets its contract: each number at its test. Assumes nothing.
 use borrow.Author.Needs.{needs}
 use borrow.Author.Tests.{eq-eqb, ne-eqb, lt-ltb, le-ltb, not-true, not-false}
-use native.Mathlib.Omega.{arith}
-use mathlib.Core.Path.{_≡_, sym, _∙_}
+use mathlib.Core.Path.{sym, _∙_}
 use Rattle.table.specs.Limits.{mostSignals}
 use Rattle.header.specs.inner.Gathering.{namesAnswer}
 use Rattle.header.proofs.judge_names.Statement.{statement}

@@ -5,7 +5,7 @@ use Rattle.header.proofs.SignalLaws.{ends-answer, naming-starts, naming
 use Rattle.header.proofs.SignalLaws.{answer-word, answer-name, Naming}
 use Rattle.header.specs.inner.Gathering.{nameAdded}
 use Rattle.letters.proofs.Lists.{sameBytes-true, sameBytes-false}
-use Rattle.header.proofs.HeaderLaws.{name-short}
+use Rattle.header.proofs.Shapes.{shaped-name}
 use borrow.Author.Tests.{not-true, not-false}
 use native.Mathlib.Omega.{arith}
 use mathlib.Core.List.{[], _∷_, _++_, List}
@@ -92,7 +92,8 @@ returns-2 c =
     let past = c .before .before .before .before in
     let long = sym (past .before .find .ensures) ∙ past .if1 .left in
     c .turned-down2 .ensures
-    ∙ sym (answer-word _ (rw (front-take space (past .before .before .before .args .line .now), long)
+    ∙ sym (answer-word _
+    (rw (front-take space (past .before .before .before .args .line .now), long)
     (sym (c .before .before .starts-with .ensures) ∙ not-true _ (c .before .if2 .taken))))
 
 loop-holds : tie.Need-loop-holds Inv-loop μ-loop
@@ -126,7 +127,7 @@ loop-again c =
     let q = f2 .before .before .before in
     let right = told named ∙ not-false _ (c .before .before .before .if3 .left) in
     let name = c .before .name-of .ensures
-    ∙ ap nameOf (ap (take 8) (part f2) ∙ take-all 8 (word f2) (name-short (word f2) right)) in
+    ∙ ap nameOf (ap (take 8) (part f2) ∙ take-all 8 (word f2) (shaped-name (word f2) right .few)) in
     let more = c .with-name .ensures ∙ ap (nameAdded (q .loop .kept .names) (q .loop .n)) name in (
       q .loop .inv .0 ++ (word f2 ∷ []),
       (

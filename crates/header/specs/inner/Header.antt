@@ -5,8 +5,8 @@ use mathlib.Core.List.{List, [], _∷_, map}
 use lib.Dec.{leb, eqb}
 use lib.ListN.{length, take, drop, replicate}
 use Rattle.letters.specs.Lists.{every, sameBytes}
-use Rattle.table.specs.Limits.{mostSignals}
-use Rattle.table.specs.Name.{isLetter, allDistinct}
+use Rattle.table.specs.Limits.{mostSignals, nameLength}
+use Rattle.table.specs.Name.{isLowercase, allDistinct}
 use Rattle.conditions.specs.Condition.{nameOf}
 use Rattle.header.specs.Header.{isDigit16, PNP, version1, signalsWord, noName, namesFrom}
 use Rattle.header.specs.declared.Signals.{Signals}
@@ -19,7 +19,7 @@ headerNumber line =
 
 -- Whether bytes are a name.
 unfoldable pub nameShaped : List ℕ → Bool
-nameShaped w = leb 1 (length w) && leb (length w) 8 && every isLetter w
+nameShaped w = leb 1 (length w) && leb (length w) nameLength && every isLowercase w
 
 -- Over the words of the line, which stand between its spaces: 6, 7, 8.
 unfoldable pub signalsNumber : List (List ℕ) → ℕ

@@ -4,7 +4,7 @@ use Prim.Native.Nat.{ℕ, _<_}
 use mathlib.Core.List.{List}
 use mathlib.Core.Path.{_≡_}
 use lib.ListN.{length, getD}
-use Rattle.table.specs.Limits.{mostSignals, mostRows}
+use Rattle.table.specs.Limits.{mostSignals, mostRows, nameLength}
 use Rattle.table.specs.Valid.{rowsOf}
 use Rattle.table.specs.declared.Row.{Row}
 use Rattle.table.specs.declared.Table.{Table}
@@ -15,7 +15,7 @@ use Rattle.reader.specs.Grammar.{Each, IsFile}
 -- list has any length.
 pub record Sized (table : Table) : Type 0 where
   pub names : length (table .names) ≡ mostSignals
-  pub letters : (i : ℕ) → i < mostSignals → length (getD (table .names) i noName .letters) ≡ 8
+  pub chars : (i : ℕ) → i < mostSignals → length (getD (table .names) i noName .chars) ≡ nameLength
   pub rows : length (table .rows) ≡ mostRows
 
 -- Two rows with the same bounds, whatever their sets.

@@ -88,7 +88,8 @@ rowRefused number = record { number = number; sets = replicate 6 0; bounds = rep
 
 abbrev pub rowRead : List ℕ → RowRead
 rowRead v =
-    cond (boundsOrdered (boundsFrom v)) (record { number = 0; sets = setsFrom v; bounds = boundsFrom v })
+    cond (boundsOrdered (boundsFrom v))
+    (record { number = 0; sets = setsFrom v; bounds = boundsFrom v })
     (rowRefused 15)
 
 -- 10, then the fields from the left, then 15.
@@ -97,10 +98,12 @@ ruleShaped line = startsWith ruleWord line && eqb (count comma line) 11
 
 unfoldable pub rowFields : List Field → RowRead
 rowFields fields =
-    cond (eqb (numberAmong fields) 0) (rowRead (map valueOf fields)) (rowRefused (numberAmong fields))
+    cond (eqb (numberAmong fields) 0) (rowRead (map valueOf fields))
+    (rowRefused (numberAmong fields))
 
 abbrev pub lineFields : List Name → ℕ → List ℕ → List Field
 lineFields names n line = fieldsOf names n 0 (split comma (drop 5 line))
 
 unfoldable pub rowAnswer : List Name → ℕ → List ℕ → RowRead
-rowAnswer names n line = cond (ruleShaped line) (rowFields (lineFields names n line)) (rowRefused 10)
+rowAnswer names n line =
+    cond (ruleShaped line) (rowFields (lineFields names n line)) (rowRefused 10)

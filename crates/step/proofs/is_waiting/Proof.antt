@@ -1,5 +1,5 @@
 -- `step::is_waiting` meets its contract, phase by phase. Assumes nothing.
-use Rattle.step.specs.Fits.{isWaiting}
+use Rattle.step.specs.Valid.{isWaiting}
 use borrow.Author.Needs.{needs}
 use Rattle.step.proofs.is_waiting.Statement.{statement}
 use Rattle.step.proofs.is_waiting.Tie as tie

@@ -1,6 +1,6 @@
 -- `step::phase_of` meets its contract, by the tests on the way to each return. Assumes nothing.
 use borrow.Author.Tests.{eq-eqb, ne-eqb, le-leb, lt-leb, lt-ltb, le-ltb}
-use Rattle.step.specs.Phase.{phaseOf}
+use Rattle.step.specs.further.Codes.{phaseOf}
 use borrow.Author.Needs.{needs}
 use Rattle.step.proofs.phase_of.Statement.{statement}
 use Rattle.step.proofs.phase_of.Tie as tie

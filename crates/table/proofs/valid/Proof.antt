@@ -10,9 +10,9 @@ use lib.Seq.{length-take-le}
 use Rattle.letters.specs.Lists.{within, every}
 use Rattle.letters.proofs.Lists.{within-high}
 use Rattle.table.specs.Limits.{mostRows, mostSignals}
-use Rattle.table.specs.Row.{rowFits, rowUnused}
-use Rattle.table.specs.Name.{nameFits, nameUnused, allDistinct}
-use Rattle.table.specs.Valid.{rulesFit, namesFit, rowsOf, tableFits}
+use Rattle.table.specs.Row.{rowValid, rowUnused}
+use Rattle.table.specs.Name.{nameValid, nameUnused, allDistinct}
+use Rattle.table.specs.Valid.{rowsValid, namesValid, rowsOf, tableValid}
 use Rattle.table.specs.declared.Table.{Table}
 use Rattle.table.proofs.valid.Statement.{statement}
 use Rattle.table.proofs.valid.Tie as tie
@@ -37,7 +37,7 @@ places : (c : tie.Start) → length (c .args .table .rows) ≡ mostRows
 places c = rw length-map at (c .good .0 .1 .1 .1 .1 .1 .0 .1 .0 .1)
 
 returns : tie.Need-returns
-unfolding tableFits rulesFit namesFit
+unfolding tableValid rowsValid namesValid
 returns c =
     let copied = c .before .before .before .before .before .before .before in
     let start = copied .before .before .before .before in
@@ -45,8 +45,8 @@ returns c =
     let s = t .signals in
     let order = tests-order (within 1 mostSignals s) (within 1 mostRows (t .count))
     (within 1 mostRows (length (rowsOf t)))
-    (every nameFits (take s (t .names))) (allDistinct (take s (t .names)))
-    (every nameUnused (drop s (t .names))) (every (rowFits s) (rowsOf t))
+    (every nameValid (take s (t .names))) (allDistinct (take s (t .names)))
+    (every nameUnused (drop s (t .names))) (every (rowValid s) (rowsOf t))
     (every rowUnused (drop (t .count) (t .rows))) (count-used t (places start)) in
     cc
 

@@ -1,20 +1,19 @@
 -- The bound that bytes are, found by their digits.
 use Prim.Native.Nat.{ℕ, _+_, _-_, _*_}
-use mathlib.Core.Bool.{Bool, _&&_, cond}
+use mathlib.Core.Bool.{_&&_, cond}
 use mathlib.Core.List.{List, [], _∷_}
 use lib.Dec.{leb}
+use Rattle.letters.specs.Lists.{within}
+use Rattle.table.specs.Limits.{mostTicks}
 use Rattle.text.specs.declared.Bound.{Bound}
 use Rattle.text.specs.declared.Bound.the-variants.{Value, Wrong}
-
-abbrev pub within : ℕ → ℕ → ℕ → Bool
-within a b x = leb a x && leb x b
 
 abbrev pub oneDigit : ℕ → Bound
 oneDigit a = cond (within 48 57 a) (Value (a - 48)) Wrong
 
 abbrev pub twoDigits : ℕ → ℕ → Bound
 twoDigits a b =
-    cond (within 49 57 a && within 48 57 b && leb (10 * (a - 48) + (b - 48)) 60)
+    cond (within 49 57 a && within 48 57 b && leb (10 * (a - 48) + (b - 48)) mostTicks)
     (Value (10 * (a - 48) + (b - 48))) Wrong
 
 unfoldable pub boundOf : List ℕ → Bound

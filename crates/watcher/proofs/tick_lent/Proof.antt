@@ -147,7 +147,7 @@ module _ {M : Type 1} (𝓤 : URA M) (H : Heap 𝓤) (A : Atoms 𝓤) (W : Given
       lends-mut W (T.the-row) (state-kind W) (a 8) (p .watch) ! tt (fit .watch) (named 1) (β ∷ [])
       (λ δ. move ! (10 ∷ []) $
       -- [the rows; what the state's reference owns; its way back; β's token; α's token; local k at
-      -- k + 5, at k + 4 behind 6, and at k + 3 from 9 on; …]
+      -- k + 5, at k + 4 after 6, and at k + 3 from 9 on; …]
       lends-front W (R.the-row) tt mostLent (rows-kind W) (a 6) (p .rows) (α ∷ []) n ! tt
       (fit .rows) (named 0) room (λ γ.
       let x : Lent = rowsLent p n α (a 6) γ in
@@ -156,7 +156,7 @@ module _ {M : Type 1} (𝓤 : URA M) (H : Heap 𝓤) (A : Atoms 𝓤) (W : Given
       use3 W (raw (Tick 𝓤 H A at-mem run .pre (to 𝓤 H A at-mem run x y)))
       (asked 𝓤 H A at-mem run x y W (fit .signals) (fit .letter)) $
       -- [what `tick` asks; the rows' way back; the state's way back; local k at k + 3, at k + 2
-      -- behind 6, and at k + 1 from 9 on; that each local dies]: _9 = tick(_1, _11, _12, _5)
+      -- after 6, and at k + 1 from 9 on; that each local dies]: _9 = tick(_1, _11, _12, _5)
       calls-at ! (fmOf 𝓤 H (W .laws) 𝓣) (Tick 𝓤 H A at-mem run) (known .ticks)
       (to 𝓤 H A at-mem run x y)
       (and-then ! (copied ! 4 refl) (and-then ! (copied ! 12 refl) (and-then ! (copied ! 13 refl)

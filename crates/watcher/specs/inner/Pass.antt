@@ -4,15 +4,15 @@ use mathlib.Core.Bool.{_&&_, cond}
 use mathlib.Core.List.{List, [], _∷_}
 use lib.Dec.{ltb}
 use lib.ListN.{getD, set, drop}
-use Rattle.letters.specs.Letter.{letterFits}
+use Rattle.letters.specs.Letter.{letterValid}
 use Rattle.letters.specs.Lists.{within, every}
 use Rattle.table.specs.Limits.{mostSignals, mostRows}
-use Rattle.table.specs.Row.{rowFits}
+use Rattle.table.specs.Row.{rowValid}
 use Rattle.table.specs.declared.Row.{Row}
 use Rattle.step.specs.declared.Phase.{Phase}
 use Rattle.step.specs.declared.Phase.the-variants.{Waiting}
 use Rattle.step.specs.Step.{stepRow}
-use Rattle.step.specs.Fits.{phaseFits, isWaiting}
+use Rattle.step.specs.Valid.{phaseValid, isWaiting}
 use Rattle.watcher.specs.declared.Ticked.{Ticked}
 use Rattle.watcher.specs.declared.Watch.{Watch}
 use Rattle.watcher.specs.declared.pass.Pass.{Pass}
@@ -42,8 +42,8 @@ unfoldable pub rowTaken : Pass → ℕ → Row → Pass
 rowTaken pass i row = cond (ltb i mostRows) (record {
   signals = pass .signals;
   letter = pass .letter;
-  rules = pass .rules && rowFits (pass .signals) row;
-  phases = pass .phases && phaseFits row (phaseAt (pass .watch) i);
+  rules = pass .rules && rowValid (pass .signals) row;
+  phases = pass .phases && phaseValid row (phaseAt (pass .watch) i);
   watch = moved (pass .watch) i row (pass .letter);
 }) pass
 
@@ -53,5 +53,5 @@ passOver (row ∷ rows) i pass = passOver rows (i + 1) (rowTaken pass i row)
 
 unfoldable pub finished : Pass → Watch → Ticked
 finished pass watch =
-    answered (firstNumber (pass .rules) (pass .phases) (letterFits (pass .signals) (pass .letter)))
+    answered (firstNumber (pass .rules) (pass .phases) (letterValid (pass .signals) (pass .letter)))
     (pass .watch) watch

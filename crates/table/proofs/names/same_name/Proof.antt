@@ -13,7 +13,7 @@ use Rattle.table.proofs.names.same_name.Statement.{statement}
 use Rattle.table.proofs.names.same_name.Tie as tie
 
 abbrev Inv-loop : tie.InvT-loop
-Inv-loop a b i₀ i = sameName a b ≡ sameBytes (drop i (a .letters)) (drop i (b .letters))
+Inv-loop a b i₀ i = sameName a b ≡ sameBytes (drop i (a .chars)) (drop i (b .chars))
 
 abbrev μ-loop : tie.MeasureT-loop
 μ-loop a b i₀ i = nameLength - i
@@ -31,8 +31,8 @@ loop-again c =
 returns-2 : tie.Need-returns-2 Inv-loop μ-loop
 returns-2 c =
     let loop = c .before .loop in
-    let a : length (c .before .before .args .t1 .letters) ≡ nameLength = search needs in
-    let b : length (c .before .before .args .t2 .letters) ≡ nameLength = search needs in
+    let a : length (c .before .before .args .t1 .chars) ≡ nameLength = search needs in
+    let b : length (c .before .before .args .t2 .chars) ≡ nameLength = search needs in
     sym (loop .inv ∙ sameBytes-end _ _ (loop .i) (omega arith) (omega arith))
 
 pub same-name-spec : {M : Type 1} → statement M

@@ -10,12 +10,12 @@ use Rattle.watcher.proofs.pass.finish.Statement.{statement}
 use Rattle.watcher.proofs.pass.finish.Tie as tie
 
 -- past the tests for 17 and 18
-rules-fit : (c : tie.Else1) → c .before .before .before .before .args .pass .rules ≡ true
-rules-fit c = not-false _ (c .if1 .left)
+rules-valid : (c : tie.Else1) → c .before .before .before .before .args .pass .rules ≡ true
+rules-valid c = not-false _ (c .if1 .left)
 
-phases-fit : (c : tie.Else2) → c .before .before .before .before .before .before .args .pass .phases
+phases-valid : (c : tie.Else2) → c .before .before .before .before .before .before .args .pass .phases
     ≡ true
-phases-fit c = not-false _ (c .if2 .left)
+phases-valid c = not-false _ (c .if2 .left)
 
 returns : tie.Need-returns
 unfolding finished answered
@@ -30,23 +30,23 @@ returns-2 c =
     let past = c .before .before .before in
     let fails : past .before .before .before .before .args .pass .phases ≡ false =
     not-true _ (c .before .if2 .taken) in
-    rw (rules-fit past, fails) (c .refused2 .ensures)
+    rw (rules-valid past, fails) (c .refused2 .ensures)
 
 returns-3 : tie.Need-returns-3
 unfolding finished answered
 returns-3 c =
     let past = c .before .before in
-    let told = past .before .before .before .before .letter-fits in
+    let told = past .before .before .before .before .letter-valid in
     let fails = sym (told .ensures) ∙ not-true _ (c .before .if3 .taken) in
-    rw (rules-fit (past .before .before), phases-fit past, fails) (c .refused3 .ensures)
+    rw (rules-valid (past .before .before), phases-valid past, fails) (c .refused3 .ensures)
 
 returns-4 : tie.Need-returns-4
 unfolding finished answered
 returns-4 c =
     let past = c .before in
-    let told = past .before .before .before .before .letter-fits in
+    let told = past .before .before .before .before .letter-valid in
     let passes = sym (told .ensures) ∙ not-false _ (c .if3 .left) in
-    rw (rules-fit (past .before .before), phases-fit past, passes)
+    rw (rules-valid (past .before .before), phases-valid past, passes)
 
 pub finish-spec : {M : Type 1} → statement M
 finish-spec =

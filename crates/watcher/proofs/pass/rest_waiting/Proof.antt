@@ -8,7 +8,7 @@ use mathlib.Core.Path.{_≡_, sym, _∙_}
 use lib.ListN.{length, getD, drop, length-map}
 use Rattle.letters.specs.Lists.{every}
 use Rattle.letters.proofs.Lists.{every-next, every-stop, every-end}
-use Rattle.step.specs.Fits.{isWaiting}
+use Rattle.step.specs.Valid.{isWaiting}
 use Rattle.step.specs.declared.Phase.the-variants.{Waiting}
 use Rattle.watcher.specs.Watch.{phasesOf}
 use Rattle.watcher.proofs.Records.{phases-length, phase-at}

@@ -19,8 +19,8 @@ returns-2 c =
     let else = moved .before .before .before in
     rw (
       lt-ltb _ mostRows (else .if1 .left),
-      c .before .phase-fits .ensures,
-      judged .row-fits .ensures,
+      c .before .phase-valid .ensures,
+      judged .row-valid .ensures,
       moved .step-row .ensures,
     )
 

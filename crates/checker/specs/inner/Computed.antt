@@ -1,0 +1,32 @@
+-- The report of a file, computed: `RightReport` describes it.
+use Prim.Native.Nat.{ℕ}
+use mathlib.Core.List.{List}
+use Rattle.table.specs.declared.Outcome.{Outcome}
+use Rattle.table.specs.declared.Outcome.the-variants.{Accepted, Refused}
+use Rattle.table.specs.declared.Table.{Table}
+use Rattle.reader.specs.inner.File.{readAnswer}
+use Rattle.verdict.specs.declared.Found.the-variants.{Refused as FoundRefused}
+use Rattle.search.specs.Lent.{Lent}
+use Rattle.search.specs.inner.Computed.{searchAnswer}
+use Rattle.report.specs.Report.{reportBytes}
+use Rattle.checker.specs.FileReport.{FileReport, Call, callOf}
+
+-- A refused file is not searched, and lent memory is unchanged then.
+abbrev pub afterReading : Outcome → Table → Lent → FileReport
+afterReading (Refused refusal) table lent =
+    record { report = reportBytes 0 0 (lent .trace) (FoundRefused refusal); lent = lent }
+afterReading Accepted table lent =
+    let searched = searchAnswer table lent in
+    record {
+      report =
+          reportBytes (table .count) (table .signals) (searched .lent .trace) (searched .found);
+      lent = searched .lent;
+    }
+
+-- "`checktable` reads a table from standard input and prints a report."
+unfoldable pub checkAnswer : List ℕ → Lent → FileReport
+checkAnswer bytes lent =
+    let reading = readAnswer bytes in afterReading (reading .outcome) (reading .table) lent
+
+abbrev pub checkCall : List ℕ → Lent → List ℕ → Call
+checkCall bytes lent out = callOf (checkAnswer bytes lent) out
