@@ -8,8 +8,9 @@ use mathlib.Core.List.{List, [], _∷_, map}
 use mathlib.Core.Path.{_≡_, refl, ap₂}
 use lib.ListN.{length}
 use Rattle.table.specs.declared.Name.{Name}
+use Rattle.letters.specs.Lists.{within}
 use Rattle.text.specs.Lines.{count, Free, none as no-piece, and as and-piece}
-use Rattle.text.specs.inner.Bounds.{within, boundOf}
+use Rattle.text.specs.inner.Bounds.{boundOf}
 use Rattle.text.specs.declared.Bound.{Bound}
 use Rattle.text.specs.declared.Bound.the-variants.{Value as Ticks, Wrong}
 use Rattle.text.proofs.Bounds.{boundOf-complete, boundOf-right, boundOf-wrong, boundOf-none}

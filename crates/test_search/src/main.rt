@@ -2,8 +2,10 @@
 // given lengths. Every place of them is 7 before the call, so that one sees which places the search
 // sets and which it leaves. Above each case stands its answer, worked out by hand from document 01.
 // Letters of the signals `a c`: 0 neither, 1 `a`, 2 `c`, 3 both.
+mod long;
 mod print;
 
+use long::show_long;
 use print::PLACES;
 use print::print;
 use print::print_found;
@@ -226,6 +228,16 @@ fn no_tables() {
     show(b"letter 4 in a set", with_row(p, far), 3, 3, 3, 3, 1);
 }
 
+// As many states as there is room for, with a trap and without, and a trace of 4,080 letters.
+fn large() {
+    let full: &[u8] = b"full4096.pnp";
+    show_long(full, table_in(full));
+    let free: &[u8] = b"free6.pnp";
+    show_long(free, table_in(free));
+    let trace: &[u8] = b"trace4080.pnp";
+    show_long(trace, table_in(trace));
+}
+
 fn main() {
     row_p();
     row_q();
@@ -239,4 +251,5 @@ fn main() {
     three_signals();
     eight_rows();
     no_tables();
+    large();
 }

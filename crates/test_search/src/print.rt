@@ -9,7 +9,7 @@ pub fn print(word: &[u8]) {
     io::write_all(STDOUT_FILENO, word);
 }
 
-fn print_number(before: &[u8], n: u64) {
+pub fn print_number(before: &[u8], n: u64) {
     io::write_all(STDOUT_FILENO, before);
     io::print_decimal(STDOUT_FILENO, n);
 }

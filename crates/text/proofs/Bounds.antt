@@ -9,10 +9,11 @@ use mathlib.Core.List.{List, [], _∷_, _++_}
 use mathlib.Core.Path.{_≡_, refl, _∙_}
 use lib.Dec.{leb, ltb}
 use lib.ListN.{length, getD}
-use Rattle.letters.specs.Lists.{every}
+use Rattle.letters.specs.Lists.{within, every}
 use Rattle.letters.proofs.Lists.{and-left, and-right, every-append}
+use Rattle.table.specs.Limits.{mostTicks}
 use Rattle.text.specs.Bounds.{digits, decimal, IsBound}
-use Rattle.text.specs.inner.Bounds.{within, oneDigit, twoDigits, boundOf}
+use Rattle.text.specs.inner.Bounds.{oneDigit, twoDigits, boundOf}
 use Rattle.text.specs.Lines.{count}
 use Rattle.text.specs.declared.Bound.{Bound}
 use Rattle.text.specs.declared.Bound.the-variants.{Value, Wrong}
@@ -50,7 +51,7 @@ boundOf-complete xs n h = go (decLt n 10)
           first,
           second,
           value,
-          le-leb n 60 (h .small),
+          le-leb n mostTicks (h .small),
         )
 
 pub boundOf-wrong : (xs : List ℕ) → boundOf xs ≡ Wrong → (n : ℕ) → IsBound xs n → ⊥
@@ -78,11 +79,11 @@ oneDigit-right a n e =
 twoDigits-right : (a b n : ℕ) → twoDigits a b ≡ Value n → IsBound (a ∷ b ∷ []) n
 twoDigits-right a b n e =
     let v = 10 * (a - 48) + (b - 48) in
-    let told = cond-value (within 49 57 a && within 48 57 b && leb v 60) v n e in
-    let both = and-left (within 49 57 a && within 48 57 b) (leb v 60) (told .0) in
+    let told = cond-value (within 49 57 a && within 48 57 b && leb v mostTicks) v n e in
+    let both = and-left (within 49 57 a && within 48 57 b) (leb v mostTicks) (told .0) in
     let first = within-bounds 49 57 a (and-left (within 49 57 a) (within 48 57 b) both) in
     let second = within-bounds 48 57 b (and-right (within 49 57 a) (within 48 57 b) both) in
-    let most = leb-true v 60 (and-right (within 49 57 a && within 48 57 b) (leb v 60) (told .0)) in
+    let most = leb-true v mostTicks (and-right (within 49 57 a && within 48 57 b) (leb v mostTicks) (told .0)) in
     let same : 48 + n / 10 ≡ a = omega arith in
     let same-too : 48 + n % 10 ≡ b = omega arith in
     record {
@@ -104,7 +105,7 @@ boundOf-none xs h = go (boundOf xs) refl
     go (Value n) e = absurd (h n (boundOf-right xs n e))
     go Wrong e = refl
 
-pub boundOf-value-small : (xs : List ℕ) (n : ℕ) → boundOf xs ≡ Value n → n ≤ 60
+pub boundOf-value-small : (xs : List ℕ) (n : ℕ) → boundOf xs ≡ Value n → n ≤ mostTicks
 boundOf-value-small xs n e = boundOf-right xs n e .small
 
 -- `boundOf` by how many bytes there are.

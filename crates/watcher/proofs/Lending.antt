@@ -24,7 +24,7 @@ use denote.Laws.{Is, Tells, Makes, shows}
 use denote.Memory.{partOf, partAt, cellAt, mem, shares, lone}
 use denote.Array.{Array}
 use denote.ArrayMemory.{Single, array-apart, array-whole}
-use denote.Ref.{RefT, MutRef}
+use denote.Ref.{MutRef}
 use denote.Slice.{sliceVal, ShrSlice, Room}
 use denote.Lend.{lends-ref, ref-back, lends-shr-slice}
 use denote.Steps.{owned, facts}
@@ -49,7 +49,7 @@ module _ {M : Type 1} {𝓤 : URA M} {H : Heap 𝓤} {A : Atoms 𝓤} (W : Given
   cell-out (τ ∷ σ ∷ τs) one v = absurd one
 
 -- A type of one machine value, of which every value is plain data.
-pub record Single-valued {M : Type 1} (𝓤 : URA M) (H : Heap 𝓤) (A : Atoms 𝓤) (R : RattleType)
+pub record SingleValued {M : Type 1} (𝓤 : URA M) (H : Heap 𝓤) (A : Atoms 𝓤) (R : RattleType)
     : Type 1 where
   pub one : Single (R .mir)
   pub val : R .Denot → Val
@@ -57,7 +57,7 @@ pub record Single-valued {M : Type 1} (𝓤 : URA M) (H : Heap 𝓤) (A : Atoms 
   pub makes : Makes 𝓤 H A R (Is R)
 
 module _ {M : Type 1} {𝓤 : URA M} {H : Heap 𝓤} {A : Atoms 𝓤} (W : Given 𝓤 H A) (R : RattleType)
-    (S : Single-valued 𝓤 H A R) (b : ℕ) (x : R .Denot) where
+    (S : SingleValued 𝓤 H A R) (b : ℕ) (x : R .Denot) where
   -- The local's memory, with the value's machine value.
   abbrev pub Holds : Fml
   Holds = fat fullShare (lone (R .mir)) b 0 (S .val x)
@@ -105,18 +105,18 @@ module _ {M : Type 1} {𝓤 : URA M} {H : Heap 𝓤} {A : Atoms 𝓤} (W : Given
 
 -- In memory, the first n elements of an array, and the others; what is kept while the first are
 -- lent: the way back, and the others; and what the `&` on them owns.
-module _ (R : RattleType) (κ : Lft) (b n : ℕ) (xs : List (R .Denot)) where
+module _ (R : RattleType) (b n : ℕ) (xs : List (R .Denot)) where
   abbrev pub Front : Fml
   Front = arr-parts (shares R) (length (take n xs)) .part fullShare (take n xs) b 0
 
   abbrev pub Rest : Fml
   Rest = cells (Sh R fullShare) (drop n xs) b (at 0 (mem R .size) (length (take n xs)))
 
-  abbrev pub FrontLent : Fml
-  FrontLent = fsep (flent κ Front) Rest
+  abbrev pub FrontLent : Lft → Fml
+  FrontLent κ = fsep (flent κ Front) Rest
 
-  abbrev pub FrontOwn : Lifetime → GName → Fml
-  FrontOwn ℓ γ = ShrSlice ℓ κ R .own (record { ptr = (b, 0); name = γ; now = take n xs })
+  abbrev pub FrontOwn : Lft → Lifetime → GName → Fml
+  FrontOwn κ ℓ γ = ShrSlice ℓ κ R .own (record { ptr = (b, 0); name = γ; now = take n xs })
       (sliceVal (b, 0) (length (take n xs)) ∷ [])
 
   cut-in-two : parts (mem R) (shares R) fullShare xs b 0
@@ -125,39 +125,39 @@ module _ (R : RattleType) (κ : Lft) (b n : ℕ) (xs : List (R .Denot)) where
       ∙ ap (λ (ys : List (R .Denot)). cells (Sh R fullShare) ys b 0) (sym (take-append-drop n xs))
 
 module _ {M : Type 1} {𝓤 : URA M} {H : Heap 𝓤} {A : Atoms 𝓤} (W : Given 𝓤 H A) (R : RattleType)
-    (one : Single (R .mir)) (m : ℕ) (S : Single-valued 𝓤 H A (Array R m)) (b : ℕ)
+    (one : Single (R .mir)) (m : ℕ) (S : SingleValued 𝓤 H A (Array R m)) (b : ℕ)
     (xs : List (R .Denot)) (κ : Lft) (n : ℕ) where
   lends : (ℓ : Lifetime) → Room R m
       → ent 𝓤 (sem 𝓤 H A (partAt (Array R m) fullShare xs b 0))
-      (H .⇛ (ex 𝓤 (λ (γ : GName). sep 𝓤 (sem 𝓤 H A (FrontOwn R κ b n xs ℓ γ))
-      (sem 𝓤 H A (FrontLent R κ b n xs)))))
+      (H .⇛ (ex 𝓤 (λ (γ : GName). sep 𝓤 (sem 𝓤 H A (FrontOwn R b n xs κ ℓ γ))
+      (sem 𝓤 H A (FrontLent R b n xs κ)))))
   lends ℓ room =
       qed W (‵ (partAt (Array R m) fullShare xs b 0) ∷ []) ∵ updating ! $
       use1 W (‵ (arr-parts (shares R) m .part fullShare xs b 0))
       (array-apart 𝓤 H A W R fullShare one m xs b 0) $ fsplit ! $ feqL ! (λ e.
-      rewrite ! 0 (λ (F : Fml). ‵ F) (cut-in-two R κ b n xs) refl $
-      use1 W (‵ (cells (Sh R fullShare) (take n xs) b 0) ⊛ ‵ (Rest R κ b n xs))
+      rewrite ! 0 (λ (F : Fml). ‵ F) (cut-in-two R b n xs) refl $
+      use1 W (‵ (cells (Sh R fullShare) (take n xs) b 0) ⊛ ‵ (Rest R b n xs))
       (cut-app 𝓤 H A (Sh R fullShare) (take n xs) (drop n xs) b 0) $ split ! $
       rewrite ! 0 (λ (F : Fml). ‵ F) (sym (parts-cells R fullShare (take n xs) b 0)) refl $
       feqI ! ℕ (length (take n xs)) (length (take n xs)) refl $ fjoin ! $
-      use1 W (later (any (λ (γ : GName). ‵ (FrontOwn R κ b n xs ℓ γ)
-      ⊛ ‵ (flent κ (Front R κ b n xs)))))
+      use1 W (later (any (λ (γ : GName). ‵ (FrontOwn R b n xs κ ℓ γ)
+      ⊛ ‵ (flent κ (Front R b n xs)))))
       (lends-shr-slice 𝓤 H A W R ℓ κ fullShare (take n xs) b 0 (room-take R m n xs e room)) $
       await ! tt $ pick ! (λ γ. split ! $ at-once ! $
-      show ! (λ (γ′ : GName). sep 𝓤 (sem 𝓤 H A (FrontOwn R κ b n xs ℓ γ′))
-      (sem 𝓤 H A (FrontLent R κ b n xs))) γ $
+      show ! (λ (γ′ : GName). sep 𝓤 (sem 𝓤 H A (FrontOwn R b n xs κ ℓ γ′))
+      (sem 𝓤 H A (FrontLent R b n xs κ))) γ $
       move ! (1 ∷ 2 ∷ []) $ fjoin ! $ move ! (1 ∷ 0 ∷ []) $ done !))
 
   back : length xs ≡ m
-      → ent 𝓤 (sep 𝓤 (A .dead κ) (sem 𝓤 H A (FrontLent R κ b n xs)))
+      → ent 𝓤 (sep 𝓤 (A .dead κ) (sem 𝓤 H A (FrontLent R b n xs κ)))
       (H .⇛ (sem 𝓤 H A (partAt (Array R m) fullShare xs b 0)))
   back e =
-      qed W (‵ (fdead κ) ∷ ‵ (FrontLent R κ b n xs) ∷ []) ∵ updating ! $ move ! (1 ∷ []) $
+      qed W (‵ (fdead κ) ∷ ‵ (FrontLent R b n xs κ) ∷ []) ∵ updating ! $ move ! (1 ∷ []) $
       fsplit ! $ move ! (2 ∷ 0 ∷ []) $ lent-back ! tt $ fsplit ! $ drop! ! $
       rewrite ! 0 (λ (F : Fml). ‵ F) (parts-cells R fullShare (take n xs) b 0) refl $
       use2 W (‵ (cells (Sh R fullShare) (take n xs ++ drop n xs) b 0))
       (join-app 𝓤 H A (Sh R fullShare) (take n xs) (drop n xs) b 0) $
-      rewrite ! 0 (λ (F : Fml). ‵ F) (sym (cut-in-two R κ b n xs)) refl $
+      rewrite ! 0 (λ (F : Fml). ‵ F) (sym (cut-in-two R b n xs)) refl $
       feqI ! ℕ (length xs) m e $ fjoin ! $
       use1 W (‵ (partAt (Array R m) fullShare xs b 0))
       (array-whole 𝓤 H A W R fullShare m xs b 0) $ at-once ! $ done !
@@ -165,17 +165,17 @@ module _ {M : Type 1} {𝓤 : URA M} {H : Heap 𝓤} {A : Atoms 𝓤} (W : Given
   module _ {K : Type 0} {Γ : List (Item 𝓤)} {G : Goal 𝓤 H} where
     -- The first n elements are lent by `&`.
     pub lends-front : K → Soaks G → Is (Array R m) xs (S .val xs ∷ []) → (ℓ : Lifetime) → Room R m
-        → ((γ : GName) → Seq K W (‵ (FrontOwn R κ b n xs ℓ γ) ∷ ‵ (FrontLent R κ b n xs) ∷ Γ) G)
+        → ((γ : GName) → Seq K W (‵ (FrontOwn R b n xs κ ℓ γ) ∷ ‵ (FrontLent R b n xs κ) ∷ Γ) G)
         → Seq K W (‵ (Holds W (Array R m) S b xs) ∷ Γ) G
     lends-front t z is ℓ room k =
         use1 W (‵ (partAt (Array R m) fullShare xs b 0)) (stored W (Array R m) S b xs is) $
-        use1 W (later (any (λ (γ : GName). ‵ (FrontOwn R κ b n xs ℓ γ)
-        ⊛ ‵ (FrontLent R κ b n xs)))) (lends ℓ room) $
+        use1 W (later (any (λ (γ : GName). ‵ (FrontOwn R b n xs κ ℓ γ)
+        ⊛ ‵ (FrontLent R b n xs κ)))) (lends ℓ room) $
         await t z $ pick t (λ γ. split t $ k γ)
 
     -- They come back.
     pub front-back : K → Soaks G → length xs ≡ m → Seq K W (‵ (Holds W (Array R m) S b xs) ∷ Γ) G
-        → Seq K W (‵ (fdead κ) ∷ ‵ (FrontLent R κ b n xs) ∷ Γ) G
+        → Seq K W (‵ (fdead κ) ∷ ‵ (FrontLent R b n xs κ) ∷ Γ) G
     front-back t z e k =
         use2 W (later (‵ (partAt (Array R m) fullShare xs b 0))) (back e) $ await t z $
         use1 W (given (Is (Array R m) xs (S .val xs ∷ [])) (‵ (Holds W (Array R m) S b xs)))

@@ -86,8 +86,9 @@ fn rows_lent(count: usize) -> usize
     if count < MOST_LENT { count } else { MOST_LENT }
 }
 
-// One tick with rows and state by value: the first rows are lent to `tick`, as many as `count` says
-// and all if it says more, and so is a copy of the state.
+// One tick with rows and state by value: the first `count` rows, or all if there are fewer, and a
+// copy of the state are lent to `tick`. Refused with 17, 18 or 19, in this order; the state is then
+// the one that was passed.
 pub fn tick_lent(
     signals: u8,
     rows: [Row; MOST_LENT],

@@ -6,7 +6,7 @@ use borrow.Author.Tests.{le-leb, lt-leb}
 use native.Mathlib.Omega.{arith}
 use mathlib.Core.Bool.{true}
 use mathlib.Core.Path.{_≡_}
-use Rattle.text.specs.inner.Bounds.{within}
+use Rattle.letters.specs.Lists.{within}
 use Rattle.text.proofs.Bounds.{within-true}
 use Rattle.text.proofs.two_digits.Statement.{statement}
 use Rattle.text.proofs.two_digits.Tie as tie

@@ -44,7 +44,6 @@ use denote.Triple.Walked.{Stays, stay-ref, stay-dropped, walkOf, goes-ref, ends-
 use Rattle.table.proofs.Row as R
 use Rattle.table.proofs.Outcome as O
 use Rattle.table.proofs.Outcome.Laws as O′
-use Rattle.watcher.specs.declared.Watch.{Watch}
 use Rattle.watcher.specs.declared.Ticked.{Ticked}
 use Rattle.watcher.proofs.Lent.{Lent, lentOf, Typed, signalsVal, letterVal, token, tickArgs}
 use Rattle.watcher.proofs.Lent.{rowsVal, rowsArgs, rowsVals, RowsOwn, stateVal, answer}

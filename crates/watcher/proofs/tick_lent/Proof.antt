@@ -67,8 +67,8 @@ use Rattle.watcher.proofs.tick_lent.Statement as stated
 use Rattle.watcher.proofs.tick_lent.Code as code
 use Rattle.watcher.proofs.tick_lent.Proof.Calls.{Tick, Known, to, asked, Answers}
 use Rattle.watcher.proofs.tick_lent.Proof.Params.{Passed, Fitting, args, vals, mostLent}
-use Rattle.watcher.proofs.tick_lent.Proof.Params.{Rows, rowsVal, rows-tell, rows-kind}
-use Rattle.watcher.proofs.tick_lent.Proof.Params.{state-kind, room, rowsLent, stateLent}
+use Rattle.watcher.proofs.tick_lent.Proof.Params.{Rows, rowsVal, rows-tell, rowsKind}
+use Rattle.watcher.proofs.tick_lent.Proof.Params.{stateKind, room, rowsLent, stateLent}
 use Rattle.watcher.proofs.tick_lent.Proof.Params.{all-rows, lent-count, lent-fits}
 use Rattle.watcher.proofs.tick_lent.Proof.Params.{lent-first, ticked, ticked-is}
 mod Params
@@ -144,11 +144,11 @@ module _ {M : Type 1} (𝓤 : URA M) (H : Heap 𝓤) (A : Atoms 𝓤) (W : Given
       assigns ! (addr ! (spot !)) (spot !) (init ! 12 refl (tt, tt)) $
       lft-new ! tt (λ α. lft-new ! tt (λ β. move ! (10 ∷ []) $
       -- [the state; β's token; α's token; local k at k + 3, and at k + 2 from 9 on; …]
-      lends-mut W (T.the-row) (state-kind W) (a 8) (p .watch) ! tt (fit .watch) (named 1) (β ∷ [])
+      lends-mut W (T.the-row) (stateKind W) (a 8) (p .watch) ! tt (fit .watch) (named 1) (β ∷ [])
       (λ δ. move ! (10 ∷ []) $
       -- [the rows; what the state's reference owns; its way back; β's token; α's token; local k at
       -- k + 5, at k + 4 after 6, and at k + 3 from 9 on; …]
-      lends-front W (R.the-row) tt mostLent (rows-kind W) (a 6) (p .rows) (α ∷ []) n ! tt
+      lends-front W (R.the-row) tt mostLent (rowsKind W) (a 6) (p .rows) (α ∷ []) n ! tt
       (fit .rows) (named 0) room (λ γ.
       let x : Lent = rowsLent p n α (a 6) γ in
       let y : LentState = stateLent β (a 8) δ in
@@ -167,11 +167,11 @@ module _ {M : Type 1} (𝓤 : URA M) (H : Heap 𝓤) (A : Atoms 𝓤) (W : Given
       use1 W (‵ (token x) ⊛ ‵ (stateToken y) ⊛ ‵ ftrue) (id⊢ 𝓤 _) $ split3 ! $
       lft-end ! tt $ move ! (1 ∷ []) $ lft-end ! tt $ move ! (1 ∷ 4 ∷ []) $
       -- [α is over; the rows' way back; β is over; true; the last values; the state's way back; …]
-      front-back W (R.the-row) tt mostLent (rows-kind W) (a 6) (p .rows) (α ∷ []) n ! tt
+      front-back W (R.the-row) tt mostLent (rowsKind W) (a 6) (p .rows) (α ∷ []) n ! tt
       (all-rows p fit) (move ! (3 ∷ []) $ fsplit ! $ drop! ! $ fsplit ! $ drop! ! $ fsplit ! $
       -- [the state's last value; true; the rows; β is over; true; the state's way back; …]
       move ! (3 ∷ 5 ∷ 0 ∷ []) $
-      mut-back W (T.the-row) (state-kind W) (a 8) w ! tt (λ isw.
+      mut-back W (T.the-row) (stateKind W) (a 8) w ! tt (λ isw.
       keep ! (rising 6 4 ++ (2 ∷ 10 ∷ 0 ∷ rising 19 11)) $
       -- [the locals, each at its number; that each local dies]: _13 = _8; _0 = _9 and _13
       land ! (spot !) (init ! 9 refl

@@ -32,7 +32,7 @@ use Rattle.table.proofs.Outcome.Laws as O′
 use Rattle.watcher.specs.declared.Watch.{Watch}
 use Rattle.watcher.specs.declared.Ticked.{Ticked}
 use Rattle.watcher.proofs.Lent.{Lent, LentState, stateVal}
-use Rattle.watcher.proofs.Lending.{Single-valued}
+use Rattle.watcher.proofs.Lending.{SingleValued}
 use Rattle.watcher.proofs.Walks.{made}
 use Rattle.watcher.proofs.Watch as T
 use Rattle.watcher.proofs.Watch.Laws as T′
@@ -60,16 +60,16 @@ rows-tell =
 
 -- What the walk lends has one machine value, and is plain data.
 module _ {M : Type 1} {𝓤 : URA M} {H : Heap 𝓤} {A : Atoms 𝓤} (W : Given 𝓤 H A) where
-  abbrev pub rows-kind : Single-valued 𝓤 H A Rows
-  rows-kind = record {
+  abbrev pub rowsKind : SingleValued 𝓤 H A Rows
+  rowsKind = record {
     one = tt;
     val = rowsVal;
     tells = rows-tell;
     makes = array-makes 𝓤 H A W (R.the-row) (made W R.the-type R′.the-plain) mostLent;
   }
 
-  abbrev pub state-kind : Single-valued 𝓤 H A (T.the-row)
-  state-kind = record {
+  abbrev pub stateKind : SingleValued 𝓤 H A (T.the-row)
+  stateKind = record {
     one = tt;
     val = stateVal;
     tells = LL.tells T.the-type T′.the-laws;
