@@ -14,6 +14,7 @@ use lib.ListN.{drop-of-length-le, take-append-drop, List·getD-map}
 use lib.Seq.{take-all, take-add, drop-drop, set-at, append-snoc}
 use Rattle.letters.specs.Lists.{every, sameBytes}
 use Rattle.letters.proofs.Lists.{and-left, and-right, sameBytes-true}
+use Rattle.table.specs.Limits.{mostTicks}
 use Rattle.table.specs.declared.Name.{Name}
 use Rattle.text.specs.Lines.{count, comma}
 use Rattle.text.specs.inner.Cut.{split, front}
@@ -46,7 +47,7 @@ judged-fault (Letters v) m e = absurd (let same : _≡_ {A = ℕ} 0 1 = cc in om
 judged-fault (NoCondition k) m e = cc
 
 -- A bound's value is small.
-ticks-small : (b : Bound) → ((t : ℕ) → b ≡ Ticks t → t ≤ 60) → valueOf (ticksField b) ≤ 60
+ticks-small : (b : Bound) → ((t : ℕ) → b ≡ Ticks t → t ≤ mostTicks) → valueOf (ticksField b) ≤ mostTicks
 ticks-small (Ticks t) small = small t refl
 ticks-small Wrong small = omega arith
 
@@ -62,12 +63,12 @@ module _ (names : List Name) (n : ℕ) where
       go true e = ticks-fault (boundOf xs) m e
       go false e = judge-some names n xs m (judged-fault (judge names n xs) m e)
 
-  field-small : (k : ℕ) (xs : List ℕ) → boundAt k ≡ true → valueOf (fieldOf names n k xs) ≤ 60
+  field-small : (k : ℕ) (xs : List ℕ) → boundAt k ≡ true → valueOf (fieldOf names n k xs) ≤ mostTicks
   unfolding fieldOf
   field-small k xs bound = rw bound (ticks-small (boundOf xs) (boundOf-value-small xs))
 
   bounds-small : (pieces : List (List ℕ)) (k i : ℕ) → boundAt (k + i) ≡ true
-      → valueOf (getD (fieldsOf names n k pieces) i (Value 0)) ≤ 60
+      → valueOf (getD (fieldsOf names n k pieces) i (Value 0)) ≤ mostTicks
   unfolding fieldsOf
   bounds-small [] k i bound = omega arith
   bounds-small (xs ∷ pieces) k zero bound = field-small k xs (rw add-zero at bound)
