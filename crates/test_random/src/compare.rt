@@ -4,8 +4,14 @@ use crate::expected::ABSENT;
 use crate::expected::Expected;
 use crate::expected::SOUND;
 use crate::expected::TRAPPED;
+use crate::lent::Held;
+use crate::lent::LETTERS_KEY;
 use crate::lent::LONGEST;
+use crate::lent::LOST_KEY;
 use crate::lent::Lengths;
+use crate::lent::PREDECESSORS_KEY;
+use crate::lent::STATES_KEY;
+use crate::lent::TRACE_KEY;
 use crate::lent::after_search;
 use crate::second::ALL_PARTS;
 use crate::second::LETTER;
@@ -66,25 +72,33 @@ fn wrong8(i: usize, places: usize, number: u8, right: u64, n: u8) -> u16 {
 
 // Under a verdict the trace buffer has the trace, "the rest unchanged".
 pub fn compare_lists(
-    states: [u64; LONGEST],
-    predecessors: [u16; LONGEST],
-    letters: [u8; LONGEST],
-    lost: [u16; LONGEST],
-    trace: [u8; LONGEST],
+    held: Held,
     lengths: Lengths,
     answer: &[u64; ALL_PARTS],
     right: Expected,
     key: u64,
 ) -> u16 {
+    let states = held.states;
+    let predecessors = held.predecessors;
+    let letters = held.letters;
+    let lost = held.lost;
+    let trace = held.trace;
     let used = right.used;
     let cleared = right.cleared;
     let mut bits: u16 = 0;
     for i in 0..LONGEST {
-        let a = after_search(answer, STATE, i, used, cleared, key);
-        let b = after_search(answer, PREDECESSOR, i, used, cleared, key);
-        let c = after_search(answer, LETTER, i, used, cleared, key);
-        let d = after_search(answer, LOST, i, used, cleared, key);
-        let e = after_search(answer, TRACE, i, right.length, false, key);
+        let a = after_search(answer, STATE, i, used, cleared, key ^ STATES_KEY);
+        let b = after_search(
+            answer,
+            PREDECESSOR,
+            i,
+            used,
+            cleared,
+            key ^ PREDECESSORS_KEY,
+        );
+        let c = after_search(answer, LETTER, i, used, cleared, key ^ LETTERS_KEY);
+        let d = after_search(answer, LOST, i, used, cleared, key ^ LOST_KEY);
+        let e = after_search(answer, TRACE, i, right.length, false, key ^ TRACE_KEY);
         bits = bits
             | wrong(i, lengths.states, states[i], a, 5)
             | wrong16(i, lengths.predecessors, predecessors[i], b, 6)

@@ -11,7 +11,7 @@ use crate::second::Solved;
 // No list is longer.
 pub const LONGEST: usize = 512;
 
-fn capped(n: usize) -> usize
+pub fn capped(n: usize) -> usize
     ensures { λ r. ⌜ r ≤ 512 ⌝ }
 {
     if n < LONGEST { n } else { LONGEST }
@@ -75,36 +75,65 @@ pub fn any_lengths(seed: u64, solved: Solved) -> Lengths
     }
 }
 
+// The lists hold different rubbish: each has a key of its own.
+pub const STATES_KEY: u64 = 0x10000;
+
+pub const PREDECESSORS_KEY: u64 = 0x20000;
+
+pub const LETTERS_KEY: u64 = 0x30000;
+
+pub const LOST_KEY: u64 = 0x40000;
+
+pub const TRACE_KEY: u64 = 0x50000;
+
 // What stands at a place before the search.
 fn rubbish(key: u64, i: usize) -> u64 {
     mixed(key ^ (i as u64))
 }
 
-// What the lists hold before the search, by the width of their numbers.
-pub struct Before {
-    pub wide: [u64; LONGEST],
-    pub middle: [u16; LONGEST],
-    pub narrow: [u8; LONGEST],
+fn rubbish_u16(key: u64, i: usize) -> u16 {
+    (rubbish(key, i) % 65536) as u16
 }
 
-pub fn before_search(key: u64) -> Before
-    ensures { λ r. ⌜ 512 ≡ length (r .wide) ⌝ }
-    ensures { λ r. ⌜ 512 ≡ length (r .middle) ⌝ }
-    ensures { λ r. ⌜ 512 ≡ length (r .narrow) ⌝ }
+fn rubbish_u8(key: u64, i: usize) -> u8 {
+    (rubbish(key, i) % 256) as u8
+}
+
+// What the lists hold.
+pub struct Held {
+    pub states: [u64; LONGEST],
+    pub predecessors: [u16; LONGEST],
+    pub letters: [u8; LONGEST],
+    pub lost: [u16; LONGEST],
+    pub trace: [u8; LONGEST],
+}
+
+// What they hold before the search.
+pub fn before_search(key: u64) -> Held
+    ensures { λ r. ⌜ 512 ≡ length (r .states) ⌝ }
+    ensures { λ r. ⌜ 512 ≡ length (r .predecessors) ⌝ }
+    ensures { λ r. ⌜ 512 ≡ length (r .letters) ⌝ }
+    ensures { λ r. ⌜ 512 ≡ length (r .lost) ⌝ }
+    ensures { λ r. ⌜ 512 ≡ length (r .trace) ⌝ }
 {
-    let mut wide = [0u64; LONGEST];
-    let mut middle = [0u16; LONGEST];
-    let mut narrow = [0u8; LONGEST];
+    let mut states = [0u64; LONGEST];
+    let mut predecessors = [0u16; LONGEST];
+    let mut letters = [0u8; LONGEST];
+    let mut lost = [0u16; LONGEST];
+    let mut trace = [0u8; LONGEST];
     for i in 0..LONGEST {
-        let x = rubbish(key, i);
-        wide[i] = x;
-        middle[i] = (x % 65536) as u16;
-        narrow[i] = (x % 256) as u8;
+        states[i] = rubbish(key ^ STATES_KEY, i);
+        predecessors[i] = rubbish_u16(key ^ PREDECESSORS_KEY, i);
+        letters[i] = rubbish_u8(key ^ LETTERS_KEY, i);
+        lost[i] = rubbish_u16(key ^ LOST_KEY, i);
+        trace[i] = rubbish_u8(key ^ TRACE_KEY, i);
     }
-    Before {
-        wide,
-        middle,
-        narrow,
+    Held {
+        states,
+        predecessors,
+        letters,
+        lost,
+        trace,
     }
 }
 

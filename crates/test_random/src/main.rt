@@ -12,13 +12,17 @@ mod reached;
 mod rules;
 mod second;
 mod spoil;
+mod strike;
 mod tally;
 
 use compare::compare_answers;
 use compare::compare_lists;
 use expected::expect;
+use lent::Held;
+use lent::Lengths;
 use lent::any_lengths;
 use lent::before_search;
+use lent::capped;
 use random::any_table;
 use random::mixed;
 use random::one_in;
@@ -26,15 +30,58 @@ use second::ALL_PARTS;
 use second::Solved;
 use second::solve;
 use spoil::spoil;
+use strike::any_strike;
+use strike::is_struck;
+use strike::struck;
 use table::Table;
 use tally::Tally;
 use tally::counted;
 use tally::none;
+use tally::noted;
 use tally::print;
+use tally::told;
+use verdict::Found;
 
 const TABLES: u64 = 10000;
 
 const SEED: u64 = 0x2545_f491_4f6c_dd1d;
+
+// What a search finds, and what it leaves in the lists.
+struct Searched {
+    found: Found,
+    after: Held,
+}
+
+// Searches a table with the first places of each list lent, which hold rubbish before it.
+fn search_lent(seed: u64, table: Table, lengths: Lengths) -> Searched {
+    let before = before_search(seed);
+    let mut states = before.states;
+    let mut predecessors = before.predecessors;
+    let mut letters = before.letters;
+    let mut lost = before.lost;
+    let mut trace = before.trace;
+    let a = capped(lengths.states);
+    let b = capped(lengths.predecessors);
+    let c = capped(lengths.letters);
+    let d = capped(lengths.lost);
+    let e = capped(lengths.trace);
+    let found = search::search(
+        table,
+        &mut states[..a],
+        &mut predecessors[..b],
+        &mut letters[..c],
+        &mut lost[..d],
+        &mut trace[..e],
+    );
+    let after = Held {
+        states,
+        predecessors,
+        letters,
+        lost,
+        trace,
+    };
+    Searched { found, after }
+}
 
 // Searches a table with lent lists of some lengths, compares, and counts it.
 fn attempt(
@@ -47,38 +94,21 @@ fn attempt(
 ) -> Tally {
     let lengths = any_lengths(seed ^ 4, solved);
     let right = expect(valid, solved, lengths);
-    let before = before_search(seed);
-    let mut states = before.wide;
-    let mut predecessors = before.middle;
-    let mut letters = before.narrow;
-    let mut lost = before.middle;
-    let mut trace = before.narrow;
-    let a = lengths.states;
-    let b = lengths.predecessors;
-    let c = lengths.letters;
-    let d = lengths.lost;
-    let e = lengths.trace;
-    let found = search::search(
-        table,
-        &mut states[..a],
-        &mut predecessors[..b],
-        &mut letters[..c],
-        &mut lost[..d],
-        &mut trace[..e],
-    );
-    let differs = compare_lists(
-        states,
-        predecessors,
-        letters,
-        lost,
-        trace,
-        lengths,
-        answer,
+    let searched = search_lent(seed, table, lengths);
+    let found = searched.found;
+    let after = searched.after;
+    let strike = any_strike(seed ^ 5, lengths);
+    let lists = compare_lists(struck(after, strike), lengths, answer, right, seed);
+    let differs = lists | compare_answers(found, right);
+    let changed = is_struck(strike);
+    let noted = noted(tally, changed, differs);
+    counted(
+        noted,
         right,
-        seed,
+        table.count,
+        told(changed, differs),
+        solved.kinds,
     )
-        | compare_answers(found, right);
-    counted(tally, right, table.count, differs, solved.kinds)
 }
 
 // Makes a table, solves it by the second search, and tries the first on it, or now and then on the

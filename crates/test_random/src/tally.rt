@@ -11,6 +11,8 @@ use libc::STDOUT_FILENO;
 pub struct Tally {
     pub tables: usize,
     pub agreed: usize,
+    pub struck: usize,
+    pub noticed: usize,
     pub sound: usize,
     pub sound_with_rows: usize,
     pub trapped: usize,
@@ -33,7 +35,7 @@ pub struct Tally {
 }
 
 // So many lines are printed of it.
-const LINES: usize = 21;
+const LINES: usize = 23;
 
 // A walk that falls back through so many doomed states in a row is counted.
 const FALL: usize = 5;
@@ -42,6 +44,8 @@ pub fn none() -> Tally {
     Tally {
         tables: 0,
         agreed: 0,
+        struck: 0,
+        noticed: 0,
         sound: 0,
         sound_with_rows: 0,
         trapped: 0,
@@ -95,15 +99,32 @@ fn print_difference(bits: u16, number: usize) {
     }
     let text: &[u8] = b"refusal #verdict #trace length #lost number #count #\
         states #predecessors #letters #lost numbers #trace #\
-        the walk's lost numbers #differ in table #";
+        the walk's lost numbers #a changed place #differ in table #";
     let mut left = bits;
-    for n in 0..11 {
+    for n in 0..12 {
         if left % 2 == 1 {
             print_word(text, n);
         }
         left = left / 2;
     }
-    print_line(text, 11, number);
+    print_line(text, 12, number);
+}
+
+// The tally with a table whose place was changed, and whether the comparison noticed it.
+pub fn noted(tally: Tally, struck: bool, differs: u16) -> Tally {
+    let mut t = tally;
+    t.struck = one_more_if(t.struck, struck);
+    t.noticed = one_more_if(t.noticed, struck & (differs != 0));
+    t
+}
+
+// What differs, but for a place that was changed to see that it is noticed.
+pub fn told(struck: bool, differs: u16) -> u16 {
+    if struck {
+        unless(differs != 0, 11)
+    } else {
+        differs
+    }
 }
 
 // The tally with one table more, of which `differs` says what differs. The paths are counted where
@@ -117,6 +138,8 @@ pub fn counted(t: Tally, right: Expected, rows: u8, differs: u16, kinds: Kinds) 
     Tally {
         tables: one_more(t.tables),
         agreed: one_more_if(t.agreed, differs == 0),
+        struck: t.struck,
+        noticed: t.noticed,
         sound: one_more_if(t.sound, sound),
         sound_with_rows: one_more_if(t.sound_with_rows, sound & (1 < rows) & (3 < right.count)),
         trapped: one_more_if(t.trapped, trapped),
@@ -140,7 +163,8 @@ pub fn counted(t: Tally, right: Expected, rows: u8, differs: u16, kinds: Kinds) 
 }
 
 pub fn print(t: Tally) {
-    let text: &[u8] = b"tables #agreed #\
+    let text: &[u8] =
+        b"tables #agreed #  with a place changed after the search #  of these noticed #\
         sound #  with several rows and over 3 states #\
         trapped #  with an empty trace #  with a trace over 3 letters #  \
         with a lost number over 3 #\
@@ -153,6 +177,8 @@ pub fn print(t: Tally) {
     let numbers = [
         t.tables,
         t.agreed,
+        t.struck,
+        t.noticed,
         t.sound,
         t.sound_with_rows,
         t.trapped,

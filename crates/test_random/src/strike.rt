@@ -1,0 +1,102 @@
+// Now and then one place that is compared is changed after the search, to see that the comparison
+// notices it.
+use crate::lent::Held;
+use crate::lent::LONGEST;
+use crate::lent::Lengths;
+use crate::random::below;
+use crate::random::byte_below;
+use crate::random::mixed;
+use crate::random::one_in;
+
+// The lists by number: states, predecessors, letters, lost numbers, trace.
+const LISTS: u8 = 5;
+
+// A place of a list; or none, where there is no such list.
+pub struct Strike {
+    pub list: u8,
+    pub at: usize,
+}
+
+fn nowhere() -> Strike {
+    Strike { list: LISTS, at: 0 }
+}
+
+pub fn is_struck(strike: Strike) -> bool {
+    strike.list < LISTS
+}
+
+// One place in one table of twenty, if the list that is picked has any.
+pub fn any_strike(seed: u64, lengths: Lengths) -> Strike {
+    let own = mixed(seed);
+    if !one_in(own, 20) {
+        return nowhere();
+    }
+    let list = byte_below(own ^ 1, LISTS);
+    let places = match list {
+        0 => lengths.states,
+        1 => lengths.predecessors,
+        2 => lengths.letters,
+        3 => lengths.lost,
+        _ => lengths.trace,
+    };
+    if places == 0 {
+        return nowhere();
+    }
+    let at = below(own ^ 2, (places % 65536) as u16) as usize;
+    Strike { list, at }
+}
+
+// List n with its place changed, if it is the one.
+fn strike_u64(list: [u64; LONGEST], n: u8, strike: Strike) -> [u64; LONGEST] {
+    let mut changed = list;
+    let at = strike.at;
+    if strike.list == n {
+        if at < LONGEST {
+            changed[at] = changed[at] ^ 1;
+        }
+    }
+    changed
+}
+
+fn strike_u16(list: [u16; LONGEST], n: u8, strike: Strike) -> [u16; LONGEST] {
+    let mut changed = list;
+    let at = strike.at;
+    if strike.list == n {
+        if at < LONGEST {
+            changed[at] = changed[at] ^ 1;
+        }
+    }
+    changed
+}
+
+fn strike_u8(list: [u8; LONGEST], n: u8, strike: Strike) -> [u8; LONGEST] {
+    let mut changed = list;
+    let at = strike.at;
+    if strike.list == n {
+        if at < LONGEST {
+            changed[at] = changed[at] ^ 1;
+        }
+    }
+    changed
+}
+
+// The lists with the place changed, if there is one.
+pub fn struck(held: Held, strike: Strike) -> Held {
+    let states = held.states;
+    let predecessors = held.predecessors;
+    let letters = held.letters;
+    let lost = held.lost;
+    let trace = held.trace;
+    let states = strike_u64(states, 0, strike);
+    let predecessors = strike_u16(predecessors, 1, strike);
+    let letters = strike_u8(letters, 2, strike);
+    let lost = strike_u16(lost, 3, strike);
+    let trace = strike_u8(trace, 4, strike);
+    Held {
+        states,
+        predecessors,
+        letters,
+        lost,
+        trace,
+    }
+}
