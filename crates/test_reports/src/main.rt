@@ -1,5 +1,6 @@
 // Its arguments are files of tables/, two by two: a table and the report stored beside it. Of each
-// table it says whether the checker makes that report of it, and if not, what it makes.
+// table it says whether the checker makes that report of it, and if not, what it makes. The last
+// report is spoilt on purpose, so that one sees that a difference is noticed.
 use libc::STDOUT_FILENO;
 ghost use Rattle.io.specs.Counts.{Counts};
 
