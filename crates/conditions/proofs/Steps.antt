@@ -33,7 +33,8 @@ module _ {names : List Name} {n : ℕ} {s : List ℕ} {k : Kind} {at : ℕ} {r :
   reads-starts h e =
       let f = suc (3 * (length s - at) + rank k) in
       let read = sym (h .reading f (omega arith)) in
-      subst (Sound names n s k at) e (subst (Sound names n s k at) read (reads-sound names n s f at k))
+      subst (Sound names n s k at) e
+      (subst (Sound names n s k at) read (reads-sound names n s f at k))
       .starts
 
 -- Parts of a kind joined by a byte: terms by `|`, factors by `&`.

@@ -10,9 +10,11 @@ use Rattle.verdict.specs.Found.{refusedFound, soundFound}
 use Rattle.search.specs.Lent.{Lent, roomOf, cleared}
 use Rattle.search.specs.inner.Computed.{searchAnswer}
 use Rattle.checker.specs.inner.Computed.{checkAnswer}
-use Rattle.demands.specs.examples.Cases.{P as rowP, Q as rowQ, S as rowS, report, delayed, isRight}
+use Rattle.demands.specs.examples.Cases.{P as rowP, Q as rowQ, S as rowS, report, delayed}
+use Rattle.demands.specs.examples.Cases.{isRight}
 use Rattle.demands.specs.examples.Cases.{starred, CaseMeans}
-use Rattle.demands.specs.examples.Texts.{textP, textNotC, textQ, textS, textDelayed, fileOf, ReadAs}
+use Rattle.demands.specs.examples.Texts.{textP, textNotC, textQ, textS, textDelayed}
+use Rattle.demands.specs.examples.Texts.{fileOf, ReadAs}
 use Rattle.demands.specs.examples.Texts.{wholeOutput}
 use Rattle.demands.specs.examples.Cases.Case.{after}
 use Rattle.demands.specs.Searching.{Entered}

@@ -170,8 +170,8 @@ module _ (one other : Table) (lent held : Lent) (n : ℕ) (fit : Fit one lent n)
   rows-show = SameInput.rows-show one other lent held n fit passes signals rows room
       (λ w k t. short w k (Searching.trapped-means (systemOf one) w k .0 t))
 
--- Point 5, the report: from the bytes of any file to the bytes that are printed, in any lent memory.
--- A file has one of the two reports of `RightReport`, and no other.
+-- Point 5, the report: from the bytes of any file to the bytes that are printed, in any lent
+-- memory. A file has one of the two reports of `RightReport`, and no other.
 module _ (bytes : List ℕ) (lent : Lent) where
   pub report-answered : RightReport bytes lent (checkAnswer bytes lent)
   report-answered = Reported.report-answered bytes lent

@@ -5,11 +5,8 @@ use mathlib.Core.Bool.{true}
 use mathlib.Core.List.{List, [], _∷_, _++_}
 use mathlib.Core.Path.{_≡_, refl}
 use lib.ListN.{length, length-replicate}
-use borrow.Author.Tests.{lt-ltb}
-use Rattle.letters.specs.Letter.{letters, letterValid}
 use Rattle.letters.specs.Lists.{every}
 use Rattle.table.specs.declared.Table.{Table}
-use Rattle.traces.specs.Trace.{AllBelow}
 use Rattle.traces.specs.Count.{ReachedMany}
 use Rattle.traces.specs.inner.Verdicts.{Trapped, Sound}
 use Rattle.text.specs.Bounds.{decimal}
@@ -34,6 +31,7 @@ use Rattle.demands.specs.Searching.{Fit}
 use Rattle.demands.specs.inner.Answers.{ComputedAnswer}
 use Rattle.demands.specs.inner.Answers.ComputedAnswer.{is17, is20, is21, isSound, isTrapped}
 use Rattle.demands.proofs.Answers.{one-of-five, answer-is}
+use Rattle.demands.proofs.WatchCalls.{letters-valid}
 
 module _ (bytes : List ℕ) (lent : Lent) where
   pub refused-report : (number line : ℕ) → readAnswer bytes ≡ refusedFile number line
@@ -75,12 +73,6 @@ module _ (bytes : List ℕ) (lent : Lent) where
             written-front w (lent .trace) short,
           )
 
--- The letters of an unbroken trace are letters of the table.
-below-fits : (s : ℕ) (w : List ℕ) → AllBelow (letters s) w → every (letterValid s) w ≡ true
-unfolding every
-below-fits s [] h = refl
-below-fits s (l ∷ w) h = rw (lt-ltb l (letters s) (h .0), below-fits s w (h .1))
-
 -- What is found without a trace is in every buffer.
 no-trace : (s : ℕ) (buffer : List ℕ) (found : Found) → valuesOf found .length ≡ 0
     → TraceInBuffer s buffer found
@@ -100,7 +92,7 @@ searched-in-buffer table lent = go (one-of-five table lent)
     go (isSound f s) = no-trace _ _ _ refl
     go (isTrapped {w = w} f t short) = record {
       whole = rw (written-length w (lent .trace) short) short;
-      letters = rw (written-front w (lent .trace) short) (below-fits _ w (t .fine .letters));
+      letters = rw (written-front w (lent .trace) short) (letters-valid _ w (t .fine .letters));
     }
 
 -- What the program lends.

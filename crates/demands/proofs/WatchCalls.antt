@@ -25,10 +25,10 @@ use Rattle.demands.specs.Watching.{recordAfter, CallValid}
 use Rattle.demands.proofs.WatchLaws.{after-run, number-is, line-is, kept-is}
 
 -- All letters of a trace are letters of the table.
-all-fit : (s : ℕ) (w : List ℕ) → AllBelow (letters s) w → every (letterValid s) w ≡ true
+pub letters-valid : (s : ℕ) (w : List ℕ) → AllBelow (letters s) w → every (letterValid s) w ≡ true
 unfolding every
-all-fit s [] h = refl
-all-fit s (l ∷ w) h = rw (lt-ltb l (letters s) (h .0)) (all-fit s w (h .1))
+letters-valid s [] h = refl
+letters-valid s (l ∷ w) h = rw (lt-ltb l (letters s) (h .0)) (letters-valid s w (h .1))
 
 module _ (table : Table) (watch : Watch) where
   abbrev state : Bool
@@ -48,7 +48,7 @@ module _ (table : Table) (watch : Watch) where
       ≡ record { outcome = Taken; watch = recordAfter (table .signals) (rowsOf table) watch w }
   unfolding tablePlay answered
   played w passes fits low =
-      rw (passes, fits, all-fit (table .signals) w low)
+      rw (passes, fits, letters-valid (table .signals) w low)
       (ap (λ (v : Watch). record { outcome = Taken; watch = v })
       (ap watchOf (sym (after-run (table .signals) (rowsOf table) watch w
       (record { rules = tableValid-rows table passes; state = fits }) low))

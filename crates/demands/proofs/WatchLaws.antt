@@ -63,8 +63,8 @@ module _ (s : ℕ) (rows : List Row) where
       (phases-watch (tick rows l (phasesOf watch)))
 
   -- What the watcher made from an accepted record is accepted.
-  pub after-accepted : (watch : Watch) (w : List ℕ) → CallValid s rows watch → AllBelow (letters s) w
-      → CallValid s rows (recordAfter s rows watch w)
+  pub after-accepted : (watch : Watch) (w : List ℕ) → CallValid s rows watch
+      → AllBelow (letters s) w → CallValid s rows (recordAfter s rows watch w)
   after-accepted watch w ok h = record {
     rules = ok .rules;
     state = rw (after-run watch w ok h) (run-valid s rows (phasesOf watch) w (ok .state));
@@ -90,7 +90,8 @@ unfolding phasesValid
 fits-long [] phases h = omega arith
 fits-long (row ∷ rows) [] h = absurd (true≢false (sym h))
 fits-long (row ∷ rows) (phase ∷ phases) h =
-    let rest = fits-long rows phases (and-right (phaseValid row phase) (phasesValid rows phases) h) in
+    let rest = fits-long rows phases
+    (and-right (phaseValid row phase) (phasesValid rows phases) h) in
     omega arith
 
 -- The record before the first tick is accepted with every rules that are.
@@ -106,7 +107,8 @@ start-valid [] n h = start-waits n
 start-valid (row ∷ rows) zero h = absurd (omega arith)
 start-valid (row ∷ rows) (suc n) h = start-valid rows n (omega arith)
 
-pub start-accepted : (s : ℕ) (rows : List Row) → rowsValid s rows ≡ true → CallValid s rows startWatch
+pub start-accepted : (s : ℕ) (rows : List Row) → rowsValid s rows ≡ true
+    → CallValid s rows startWatch
 start-accepted s rows h = record {
   rules = h;
   state = rw phases-watch (start-valid rows mostRows (rowsValid-count s rows h .1));
@@ -155,7 +157,8 @@ module _ (s : ℕ) (rows : List Row) (watch : Watch) (l : ℕ) where
       → tickAnswer s rows watch l .watch ≡ watch
   unfolding tickAnswer
   answer-kept n e =
-      kept-is (firstNumber (rowsValid s rows) (phasesValid rows (phasesOf watch)) (letterValid s l)) n
+      kept-is
+      (firstNumber (rowsValid s rows) (phasesValid rows (phasesOf watch)) (letterValid s l)) n
       (watchOf (tick rows l (phasesOf watch))) watch (sym answer-number ∙ e)
 
 -- After a trace each row is where its own system is.

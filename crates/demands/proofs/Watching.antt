@@ -36,7 +36,8 @@ use Rattle.demands.proofs.WatchLaws.{start-phase}
 use Rattle.demands.proofs.WatchCalls as Calls
 
 -- Numbers 17 and 18 let the record by that the watcher starts with.
-pub start-accepted : (s : ℕ) (rows : List Row) → rowsValid s rows ≡ true → CallValid s rows startWatch
+pub start-accepted : (s : ℕ) (rows : List Row) → rowsValid s rows ≡ true
+    → CallValid s rows startWatch
 start-accepted = Laws.start-accepted
 
 module _ (s : ℕ) (rows : List Row) (watch : Watch) (ok : CallValid s rows watch) (w : List ℕ)
@@ -114,8 +115,8 @@ module _ (s : ℕ) (rows : List Row) (watch : Watch) (l : ℕ) where
       → tickAnswer s rows watch l .watch ≡ watch
   refused-keeps = Laws.answer-kept s rows watch l
 
--- The same of the calls with a table value: of one that 17 lets by a tick is that of its rows, and a
--- trace that is played gives the record after one call for each letter.
+-- The same of the calls with a table value: of one that 17 lets by a tick is that of its rows, and
+-- a trace that is played gives the record after one call for each letter.
 module _ (table : Table) (watch : Watch) where
   pub tick-as-rows : (l : ℕ) → tableValid table ≡ true
       → tableTick table watch l ≡ tickAnswer (table .signals) (rowsOf table) watch l

@@ -13,8 +13,8 @@ use Rattle.report.specs.Report.{lostWord, reportBytes}
 use Rattle.checker.specs.FileReport.{FileReport}
 use Rattle.demands.specs.Searching.{RightAnswer}
 
--- "`checktable` reads a table .. and prints a report": of a file that the reader refuses, or of what
--- the search says of its table. What is left in lent memory goes with it.
+-- "`checktable` reads a table .. and prints a report": of a file that the reader refuses, or of
+-- what the search says of its table. What is left in lent memory goes with it.
 pub data RightReport (bytes : List ℕ) (lent : Lent) : FileReport → Type 0 where
   refused : {number line : ℕ} → RightReading bytes (refusedFile number line)
       → RightReport bytes lent

@@ -137,7 +137,8 @@ abbrev pub signalsRead : List (List ℕ) → Signals
 signalsRead names = record { number = 0; count = length names; names = namesFrom names }
 
 module _ (line : List ℕ) (names : List (List ℕ)) (signals : IsSignals line names) where
-  words-free : (b : ℕ) → isLowercase b ≡ false → count b signalsWord ≡ 0 → Free b (signalsWord ∷ names)
+  words-free : (b : ℕ) → isLowercase b ≡ false → count b signalsWord ≡ 0
+      → Free b (signalsWord ∷ names)
   words-free b e none-in = and none-in (names-free b e names (signals .named))
 
   signals-split : split space line ≡ signalsWord ∷ names

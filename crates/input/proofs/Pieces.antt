@@ -41,7 +41,8 @@ module _ (done room left : ℕ) (few : done + left ≤ room) where
   bytes-fit zero moved = tt
   bytes-fit (suc k) moved = (omega arith, omega arith)
 
-  by-test : (b : Bool) (k m : ℕ) → k ≤ left → HasPlace done room (pieceOf (sel b (pos k) (negsuc m)))
+  by-test : (b : Bool) (k m : ℕ) → k ≤ left
+      → HasPlace done room (pieceOf (sel b (pos k) (negsuc m)))
   by-test true k m moved = bytes-fit k moved
   by-test false k m moved = tt
 

@@ -47,7 +47,8 @@ judged-fault (Letters v) m e = absurd (let same : _≡_ {A = ℕ} 0 1 = cc in om
 judged-fault (NoCondition k) m e = cc
 
 -- A bound's value is small.
-ticks-small : (b : Bound) → ((t : ℕ) → b ≡ Ticks t → t ≤ mostTicks) → valueOf (ticksField b) ≤ mostTicks
+ticks-small : (b : Bound) → ((t : ℕ) → b ≡ Ticks t → t ≤ mostTicks)
+    → valueOf (ticksField b) ≤ mostTicks
 ticks-small (Ticks t) small = small t refl
 ticks-small Wrong small = omega arith
 
@@ -63,7 +64,8 @@ module _ (names : List Name) (n : ℕ) where
       go true e = ticks-fault (boundOf xs) m e
       go false e = judge-some names n xs m (judged-fault (judge names n xs) m e)
 
-  field-small : (k : ℕ) (xs : List ℕ) → boundAt k ≡ true → valueOf (fieldOf names n k xs) ≤ mostTicks
+  field-small : (k : ℕ) (xs : List ℕ) → boundAt k ≡ true
+      → valueOf (fieldOf names n k xs) ≤ mostTicks
   unfolding fieldOf
   field-small k xs bound = rw bound (ticks-small (boundOf xs) (boundOf-value-small xs))
 

@@ -109,8 +109,8 @@ tick-beyond (row ∷ rows) letter (phase ∷ phases) (suc i) h =
     tick-beyond rows letter phases i (omega arith)
 
 -- After a tick number 18 lets the state by.
-pub tick-valid : (rows : List Row) (letter : ℕ) (phases : List Phase) → phasesValid rows phases ≡ true
-    → phasesValid rows (tick rows letter phases) ≡ true
+pub tick-valid : (rows : List Row) (letter : ℕ) (phases : List Phase)
+    → phasesValid rows phases ≡ true → phasesValid rows (tick rows letter phases) ≡ true
 unfolding tick phasesValid
 tick-valid [] letter phases h = h
 tick-valid (row ∷ rows) letter [] h = h

@@ -55,8 +55,8 @@ fn others_u8(list: [u8; LONG], from: usize, value: u8) -> u64 {
 }
 
 // Prints the answer, how many places of each scratch list past the entries are not 0, and how many
-// of the buffer past the trace are not 7: all 0. Then, so that one sees that a place is noticed, how
-// many states past the first are not 0, and how many entries are doomed.
+// of the buffer past the trace are not 7: all 0. Then, so that one sees that a place is noticed,
+// how many states past the first are not 0, and how many entries are doomed.
 pub fn show_long(name: &[u8], table: Table) {
     print(name);
     print(b" in 5000 places: ");

@@ -83,7 +83,8 @@ twoDigits-right a b n e =
     let both = and-left (within 49 57 a && within 48 57 b) (leb v mostTicks) (told .0) in
     let first = within-bounds 49 57 a (and-left (within 49 57 a) (within 48 57 b) both) in
     let second = within-bounds 48 57 b (and-right (within 49 57 a) (within 48 57 b) both) in
-    let most = leb-true v mostTicks (and-right (within 49 57 a && within 48 57 b) (leb v mostTicks) (told .0)) in
+    let most = leb-true v mostTicks
+    (and-right (within 49 57 a && within 48 57 b) (leb v mostTicks) (told .0)) in
     let same : 48 + n / 10 ≡ a = omega arith in
     let same-too : 48 + n % 10 ≡ b = omega arith in
     record {

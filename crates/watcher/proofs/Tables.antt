@@ -126,7 +126,8 @@ module _ (table : Table) (watch : Watch) (trace : List ℕ) where
   playing-refused r h =
       refuses-early (tableValid table) (phasesValid (rowsOf table) (phasesOf watch))
       (letterValid (table .signals) 0)
-      (every (letterValid (table .signals)) trace) (watchOf (tick (rowsOf table) 0 (phasesOf watch)))
+      (every (letterValid (table .signals)) trace)
+      (watchOf (tick (rowsOf table) 0 (phasesOf watch)))
       (watchOf (run X (phasesOf watch) trace)) watch r (zero-fits (table .signals)) h
 
   pub playing-starts : tableTick table watch 0 .outcome ≡ Accepted

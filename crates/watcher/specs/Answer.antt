@@ -30,5 +30,6 @@ answered (suc n) moved watch = refusedWith (suc n) watch
 -- when refused, and accepts code 255."
 unfoldable pub tickAnswer : ℕ → List Row → Watch → ℕ → Ticked
 tickAnswer s rows watch letter =
-    answered (firstNumber (rowsValid s rows) (phasesValid rows (phasesOf watch)) (letterValid s letter))
+    answered
+    (firstNumber (rowsValid s rows) (phasesValid rows (phasesOf watch)) (letterValid s letter))
     (watchOf (tick rows letter (phasesOf watch))) watch

@@ -29,7 +29,9 @@ cast-t3 c =
     let at = c .before .before in
     subst⁻¹ (λ (z : ℤ). T (nonNeg z) × Fits w64 (natAbs z)) (back at) (
       positive (c .before),
-      record { fits = lt-of-le-of-lt (natAbs-le (at .args .answer) (at .fits .answer .sfits)) (lit< tt) },
+      record {
+        fits = lt-of-le-of-lt (natAbs-le (at .args .answer) (at .fits .answer .sfits)) (lit< tt);
+      },
     )
 
 returns : tie.Need-returns

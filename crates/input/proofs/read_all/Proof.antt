@@ -1,5 +1,6 @@
 -- `read_all` meets its contract. The invariant: what is read from here on is what is read of the
--- whole input. The measure: how much room is left. Assumes nothing but the contract of `libc::read`.
+-- whole input. The measure: how much room is left. Assumes nothing but the contract of
+-- `libc::read`.
 use Prim.Native.Nat.{ℕ, _-_, _≤_}
 use borrow.Author.Needs.{needs}
 use mathlib.Core.List.{List}
@@ -100,10 +101,12 @@ same-length-3 c = c .before .loop .inv .long
 
 returns-3 : tie.Need-returns-3 Inv-loop μ-loop
 returns-3 c =
-    let at = c .before .loop in at .inv .goes-on _ _ (full (le-antisymm (c .loop-test .left) (at .inv .within)))
+    let at = c .before .loop in
+    at .inv .goes-on _ _ (full (le-antisymm (c .loop-test .left) (at .inv .within)))
 
 pub read-all-spec : {M : Type 1} → statement M
 read-all-spec =
     tie.close (tie.spec
     Inv-loop μ-loop loop-holds read-piece-requires (λ c. search needs) add-done loop-less loop-again
-    (λ c. search needs) same-length returns (λ c. search needs) same-length-2 returns-2 same-length-3 returns-3)
+    (λ c. search needs) same-length returns (λ c. search needs) same-length-2 returns-2
+    same-length-3 returns-3)

@@ -9,7 +9,8 @@ use Rattle.step.specs.declared.Phase.{Phase}
 use Rattle.step.specs.declared.Phase.the-variants.{Waiting, Trigger, Delay, Action, Broken}
 use Rattle.step.specs.Phase.{delayCodes, actionCodes, brokenCode}
 
--- The phase of a code. From 181 to 254 there is no phase of a row: the action there is longer than any bound.
+-- The phase of a code. From 181 to 254 there is no phase of a row: the action there is longer than
+-- any bound.
 unfoldable pub phaseOf : ℕ → Phase
 phaseOf c =
     cond (eqb c 0) Waiting

@@ -1,5 +1,5 @@
--- `table::rows::used_valid` meets its contract. The invariant: each of the first n rows fits exactly
--- if each from i on does. The measure: how many of the n are left. Assumes nothing.
+-- `table::rows::used_valid` meets its contract. The invariant: each of the first n rows is valid
+-- exactly if each from i on is. The measure: how many of the n are left. Assumes nothing.
 use Prim.Native.Nat.{_-_}
 use borrow.Author.Needs.{needs}
 use borrow.Author.Tests.{not-true, not-false}

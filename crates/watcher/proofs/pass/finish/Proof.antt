@@ -13,8 +13,8 @@ use Rattle.watcher.proofs.pass.finish.Tie as tie
 rules-valid : (c : tie.Else1) → c .before .before .before .before .args .pass .rules ≡ true
 rules-valid c = not-false _ (c .if1 .left)
 
-phases-valid : (c : tie.Else2) → c .before .before .before .before .before .before .args .pass .phases
-    ≡ true
+phases-valid : (c : tie.Else2)
+    → c .before .before .before .before .before .before .args .pass .phases ≡ true
 phases-valid c = not-false _ (c .if2 .left)
 
 returns : tie.Need-returns
