@@ -12,9 +12,9 @@ use Rattle.table.specs.Valid.{tableValid}
 use Rattle.table.specs.declared.Outcome.the-variants.{Accepted}
 use Rattle.table.specs.declared.Table.{Table}
 use Rattle.table.proofs.Laws.{tableValid-count, tableValid-signals}
-use Rattle.traces.specs.inner.Answer.{Answer}
-use Rattle.traces.specs.inner.Answer.Answer.{tooMany, sound, trapped}
-use Rattle.traces.proofs.Answer.{Within, answer-within}
+use Rattle.traces.specs.inner.Judgement.{Judgement}
+use Rattle.traces.specs.inner.Judgement.Judgement.{tooMany, sound, trapped}
+use Rattle.traces.proofs.Judgement.{Within, judge-within}
 use Rattle.reader.specs.inner.File.{readAnswer}
 use Rattle.reader.proofs.Accepted.{Decided, taken, turned, read-decided}
 use Rattle.reader.proofs.Valid.{file-valid}
@@ -41,7 +41,7 @@ refused-few rows number line r m n = record {
 }
 
 -- What the search finds has numbers of few digits, and a trace that its buffer holds.
-judged-few : (rows : ℕ) → rows ≤ mostRows → (room : ℕ) → room ≤ mostRoom → (a : Answer)
+judged-few : (rows : ℕ) → rows ≤ mostRows → (room : ℕ) → room ≤ mostRoom → (a : Judgement)
     → Within room a → (lent full : Lent) → length (lent .trace) ≤ mostRoom
     → FewDigits rows mostRoom (valuesOf (judged a lent full .found))
 unfolding judged
@@ -80,7 +80,7 @@ module _ (table : Table) (lent : Lent) (short : length (lent .trace) ≤ mostRoo
   unfolding searchAnswer
   searched-few fits =
       rw fits (judged-few (table .count) (tableValid-count table fits .1) (roomOf lent)
-      (room-most lent) _ (answer-within (systemOf table) (roomOf lent) samePhases) lent _ short)
+      (room-most lent) _ (judge-within (systemOf table) (roomOf lent) samePhases) lent _ short)
 
   accepted-short : tableValid table ≡ true
       → length (afterReading Accepted table lent .report) ≤ mostReport

@@ -77,8 +77,8 @@ no-sign (x ∷ w) rest b p g =
     ne-eqb x b (λ e. true≢false (sym letter ∙ ap isLowercase e ∙ g))
 
 module _ (names : List Name) (n : ℕ) (s : List ℕ) where
-  abbrev Whole : {k : Kind} → Condition k → ℕ → Read → Type 0
-  Whole c at r = r ≡ Set (setOf n (holdsAt names c)) (unknown names c) (at + length (text c))
+  abbrev ReadAs : {k : Kind} → Condition k → ℕ → Read → Type 0
+  ReadAs c at r = r ≡ Set (setOf n (holdsAt names c)) (unknown names c) (at + length (text c))
 
   set-path : {v w i j : ℕ} {u : Bool} → v ≡ w → i ≡ j → Set v u i ≡ Set w u j
   set-path p q = cc
@@ -97,7 +97,7 @@ module _ (names : List Name) (n : ℕ) (s : List ℕ) where
 
   pub complete : {k : Kind} (c : Condition k) (f at : ℕ) (rest : List ℕ)
       → 3 * length (text c) + rank k < f → drop at s ≡ text c ++ rest → stops k rest ≡ true
-      → Whole c at (reads names n s f k at)
+      → ReadAs c at (reads names n s f k at)
   unfolding reads digitAt text holdsAt unknown
   complete c zero at rest h e q = absurd (omega arith)
   complete (oneTerm t) (suc f) at rest h e q =

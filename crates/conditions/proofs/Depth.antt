@@ -24,15 +24,15 @@ count-cons b x xs = go (eqb x b)
     go true = omega arith
     go false = omega arith
 
--- Over 8 are open before place i of the bytes, or at most 8 are, after o opening and c closing
+-- OpenOver 8 are open before place i of the bytes, or at most 8 are, after o opening and c closing
 -- ones.
-abbrev Over : ℕ → ℕ → List ℕ → ℕ → Type 0
-Over o c xs i = c + count (code ")") (take i xs) + 8 < o + count (code "(") (take i xs)
+abbrev OpenOver : ℕ → ℕ → List ℕ → ℕ → Type 0
+OpenOver o c xs i = c + count (code ")") (take i xs) + 8 < o + count (code "(") (take i xs)
 
-abbrev Within : ℕ → ℕ → List ℕ → ℕ → Type 0
-Within o c xs i = o + count (code "(") (take i xs) ≤ c + count (code ")") (take i xs) + 8
+abbrev OpenWithin : ℕ → ℕ → List ℕ → ℕ → Type 0
+OpenWithin o c xs i = o + count (code "(") (take i xs) ≤ c + count (code ")") (take i xs) + 8
 
-deep-over : (xs : List ℕ) (o c : ℕ) → deep o c xs ≡ true → (i : ℕ) × Over o c xs i
+deep-over : (xs : List ℕ) (o c : ℕ) → deep o c xs ≡ true → (i : ℕ) × OpenOver o c xs i
 unfolding deep count
 deep-over [] o c e = absurd (true≢false (sym e))
 deep-over (x ∷ xs) o c e = go (ltb (c' + 8) o') refl e (deep-over xs o' c')
@@ -44,7 +44,7 @@ deep-over (x ∷ xs) o c e = go (ltb (c' + 8) o') refl e (deep-over xs o' c')
     c' = c + isByte x (code ")")
 
     go : (t : Bool) → ltb (c' + 8) o' ≡ t → (t || deep o' c' xs) ≡ true
-        → (deep o' c' xs ≡ true → (i : ℕ) × Over o' c' xs i) → (i : ℕ) × Over o c (x ∷ xs) i
+        → (deep o' c' xs ≡ true → (i : ℕ) × OpenOver o' c' xs i) → (i : ℕ) × OpenOver o c (x ∷ xs) i
     go true p q ih =
         let here = ltb-true (c' + 8) o' p in
         (1, omega (arith, count-cons (code "(") x [], count-cons (code ")") x []))
@@ -56,7 +56,7 @@ deep-over (x ∷ xs) o c e = go (ltb (c' + 8) o') refl e (deep-over xs o' c')
         )
 
 deep-within : (xs : List ℕ) (o c : ℕ) → deep o c xs ≡ false → o ≤ c + 8 → (i : ℕ)
-    → Within o c xs i
+    → OpenWithin o c xs i
 unfolding deep count
 deep-within [] o c e h zero = omega arith
 deep-within [] o c e h (suc i) = omega arith
@@ -70,8 +70,8 @@ deep-within (x ∷ xs) o c e h (suc i) = go (ltb (c' + 8) o') refl e (deep-withi
     c' = c + isByte x (code ")")
 
     go : (t : Bool) → ltb (c' + 8) o' ≡ t → (t || deep o' c' xs) ≡ false
-        → (deep o' c' xs ≡ false → o' ≤ c' + 8 → (i : ℕ) → Within o' c' xs i)
-        → Within o c (x ∷ xs) (suc i)
+        → (deep o' c' xs ≡ false → o' ≤ c' + 8 → (i : ℕ) → OpenWithin o' c' xs i)
+        → OpenWithin o c (x ∷ xs) (suc i)
     go true p q ih = absurd (true≢false q)
     go false p q ih =
         let later = ih q (ltb-false (c' + 8) o' p) i in

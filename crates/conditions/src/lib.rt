@@ -100,8 +100,16 @@ fn name_at(s: &[u8], at: usize, names: [Name; MOST_SIGNALS], signals: u8) -> Rea
     }
     let name = name_of(&s[at..], run);
     let k = place_of(names, signals, name);
-    let used = if signals < 6 { signals } else { 6 };
-    Read::Set(letters::signal_set(signals, k), k == used, at + run)
+    let used = if (signals as usize) < MOST_SIGNALS {
+        signals as usize
+    } else {
+        MOST_SIGNALS
+    };
+    Read::Set(
+        letters::signal_set(signals, k),
+        k as usize == used,
+        at + run,
+    )
 }
 
 // `0`, `1` or a name.

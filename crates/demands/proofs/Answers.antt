@@ -10,14 +10,14 @@ use lib.ListN.{length}
 use Rattle.table.specs.Valid.{tableValid, rowsOf}
 use Rattle.table.specs.declared.Table.{Table}
 use Rattle.traces.specs.inner.Lawful.{Lawful}
-use Rattle.traces.specs.inner.Explore.{Tells}
-use Rattle.traces.specs.inner.Answer.{Answer, Right, answer}
-use Rattle.traces.specs.inner.Answer.Answer.{tooMany, sound, trapped}
-use Rattle.traces.specs.inner.Answer.Right.{tooMany-right, sound-right, trapped-right}
-use Rattle.traces.proofs.Answer.{answer-right, answer-only}
+use Rattle.traces.specs.inner.Explore.{DecidesSame}
+use Rattle.traces.specs.inner.Judgement.{Judgement, RightJudgement, judge}
+use Rattle.traces.specs.inner.Judgement.Judgement.{tooMany, sound, trapped}
+use Rattle.traces.specs.inner.Judgement.RightJudgement.{tooMany-right, sound-right, trapped-right}
+use Rattle.traces.proofs.Judgement.{judge-right, judge-only}
 use Rattle.step.proofs.Systems.{table-lawful}
 use Rattle.scratch.specs.inner.Same.{samePhases}
-use Rattle.scratch.proofs.Same.{phases-tell}
+use Rattle.scratch.proofs.Same.{phases-decided}
 use Rattle.verdict.specs.Found.{refusedFound, trappedFound}
 use Rattle.search.specs.Lent.{Lent, Searched, roomOf, systemOf, traced}
 use Rattle.search.specs.inner.Computed.{judged, searchAnswer}
@@ -29,12 +29,12 @@ module _ (table : Table) where
   pub system-lawful : Lawful (systemOf table)
   system-lawful = table-lawful (table .signals) (rowsOf table)
 
-  pub phases-differ : Tells (systemOf table) samePhases
-  phases-differ = phases-tell (table .signals) (rowsOf table)
+  pub phases-differ : DecidesSame (systemOf table) samePhases
+  phases-differ = phases-decided (table .signals) (rowsOf table)
 
 module _ (table : Table) (lent : Lent) where
   -- Each call has one of the five answers.
-  judged-answered : tableValid table ≡ true → (r : Answer) → Right (systemOf table) (roomOf lent) r
+  judged-answered : tableValid table ≡ true → (r : Judgement) → RightJudgement (systemOf table) (roomOf lent) r
       → ComputedAnswer table lent (judged r lent (withEntries table lent))
   unfolding judged
   judged-answered p r (tooMany-right m) = is20 p m
@@ -58,20 +58,20 @@ module _ (table : Table) (lent : Lent) where
   one-of-five = go (tableValid table) refl
     where
       go : (b : Bool) → tableValid table ≡ b → ComputedAnswer table lent (cond b
-          (judged (answer (systemOf table) samePhases (roomOf lent)) lent (withEntries table lent))
+          (judged (judge (systemOf table) samePhases (roomOf lent)) lent (withEntries table lent))
           (record { found = refusedFound 17; lent = lent }))
       go true p = judged-answered p _
-          (answer-right (systemOf table) (roomOf lent) (system-lawful table) samePhases
+          (judge-right (systemOf table) (roomOf lent) (system-lawful table) samePhases
           (phases-differ table))
       go false p = is17 p
 
   -- And no other: what one of them says fixes all of the answer.
-  pub right-judged : tableValid table ≡ true → (r : Answer) → Right (systemOf table) (roomOf lent) r
+  pub right-judged : tableValid table ≡ true → (r : Judgement) → RightJudgement (systemOf table) (roomOf lent) r
       → searchAnswer table lent ≡ judged r lent (withEntries table lent)
   unfolding searchAnswer
   right-judged p r t = rw (
     p,
-    answer-only (systemOf table) (roomOf lent) (system-lawful table) samePhases
+    judge-only (systemOf table) (roomOf lent) (system-lawful table) samePhases
         (phases-differ table) r t,
   )
 

@@ -14,14 +14,14 @@ use Rattle.traces.specs.inner.Explore.{Entry, listed, entryAt}
 use Rattle.traces.specs.inner.Least.{lostWithin}
 use Rattle.traces.specs.inner.Lists.{column}
 use Rattle.letters.specs.Lists.{ZeroFrom}
-use Rattle.traces.specs.inner.Numbers.{Told}
+use Rattle.traces.specs.inner.Numbers.{LostNumbers}
 use Rattle.traces.proofs.Doomed.{lives-not-doomed}
 use Rattle.traces.proofs.Back.{trace-zero}
 use Rattle.traces.proofs.Count.{count-unique, fits-or-not}
 use Rattle.traces.proofs.Explore.{explore-finished, explore-more, explore-count}
 use Rattle.traces.proofs.Explored.{entry-leads, entry-step, entry-order, entry-earliest}
 use Rattle.traces.proofs.Explored.{reached-entry, entries-closed}
-use Rattle.traces.proofs.Told.{told-computed}
+use Rattle.traces.proofs.LostNumbers.{losts-computed}
 use Rattle.traces.proofs.Scratch.{column-length, column-at, column-beyond}
 use Rattle.scratch.specs.inner.Same.{samePhases}
 use Rattle.successors.specs.State.{packed}
@@ -41,8 +41,8 @@ number-lost : (X : System) (law : Lawful X) (E : Entries X) → Finished X E →
     → e < E .count → LostOrZero X (E .state e) (lostWithin X (E .count) (E .state e))
 number-lost X law E x e h = go (ℕ-discrete (lostWithin X (E .count) (E .state e)) 0)
   where
-    computed : Told X (E .count) (E .state) (λ d. lostWithin X (E .count) (E .state d))
-    computed = told-computed X law (E .count) (E .state) (entries-closed X law E x)
+    computed : LostNumbers X (E .count) (E .state) (λ d. lostWithin X (E .count) (E .state d))
+    computed = losts-computed X law (E .count) (E .state) (entries-closed X law E x)
 
     go : Dec (lostWithin X (E .count) (E .state e) ≡ 0)
         → LostOrZero X (E .state e) (lostWithin X (E .count) (E .state e))

@@ -13,16 +13,16 @@ use Rattle.table.specs.declared.Row.{Row}
 use Rattle.table.specs.declared.Table.{Table}
 use Rattle.traces.specs.inner.Explore.{has, enter, visit, explore}
 use Rattle.traces.specs.inner.Least.{passBelow, breaksIn, lostWithin}
-use Rattle.traces.specs.inner.Answer.{Answer, Right, verdictFrom, answer}
-use Rattle.traces.specs.inner.Answer.Answer.{tooMany, sound, trapped}
-use Rattle.traces.specs.inner.Answer.Right.{tooMany-right, sound-right, trapped-right}
-use Rattle.traces.proofs.Answer.{answer-right}
+use Rattle.traces.specs.inner.Judgement.{Judgement, RightJudgement, verdictFrom, judge}
+use Rattle.traces.specs.inner.Judgement.Judgement.{tooMany, sound, trapped}
+use Rattle.traces.specs.inner.Judgement.RightJudgement.{tooMany-right, sound-right, trapped-right}
+use Rattle.traces.proofs.Judgement.{judge-right}
 use Rattle.step.specs.Phase.{isBroken}
 use Rattle.step.specs.Step.{actionCheck, delayCheck, triggerCheck, stepRow}
 use Rattle.step.specs.Tick.{tick, tableSystem}
 use Rattle.step.proofs.Systems.{table-lawful}
 use Rattle.scratch.specs.inner.Same.{kindOf, elapsed, samePhase, samePhases}
-use Rattle.scratch.proofs.Same.{phases-tell}
+use Rattle.scratch.proofs.Same.{phases-decided}
 use Rattle.reader.specs.Reading.{emptyTable}
 use Rattle.reader.proofs.Accepted.{accepted-file}
 use Rattle.reader.proofs.Valid.{file-valid}
@@ -41,18 +41,18 @@ use Rattle.demands.proofs.WholeReport.{boards-read}
 
 -- What is computed of some rows is right of them.
 right-of : (rows : List Row) (room : ℕ)
-    → Right (tableSystem 2 rows) room (answer (tableSystem 2 rows) samePhases room)
+    → RightJudgement (tableSystem 2 rows) room (judge (tableSystem 2 rows) samePhases room)
 right-of rows room =
-    answer-right (tableSystem 2 rows) room (table-lawful 2 rows) samePhases (phases-tell 2 rows)
+    judge-right (tableSystem 2 rows) room (table-lawful 2 rows) samePhases (phases-decided 2 rows)
 
-alone-answers : answer (tableSystem 2 (P ∷ [])) samePhases 2 ≡ sound 2
-unfolding answer verdictFrom lostWithin breaksIn passBelow explore visit enter has samePhases
+alone-answers : judge (tableSystem 2 (P ∷ [])) samePhases 2 ≡ sound 2
+unfolding judge verdictFrom lostWithin breaksIn passBelow explore visit enter has samePhases
     samePhase kindOf elapsed tick stepRow triggerCheck delayCheck actionCheck bitAt setOf some
     isBroken
 alone-answers = refl
 
-alone-crowded : answer (tableSystem 2 (P ∷ [])) samePhases 1 ≡ tooMany
-unfolding answer verdictFrom lostWithin breaksIn passBelow explore visit enter has samePhases
+alone-crowded : judge (tableSystem 2 (P ∷ [])) samePhases 1 ≡ tooMany
+unfolding judge verdictFrom lostWithin breaksIn passBelow explore visit enter has samePhases
     samePhase kindOf elapsed tick stepRow triggerCheck delayCheck actionCheck bitAt setOf some
     isBroken
 alone-crowded = refl
@@ -74,7 +74,7 @@ module _ (lent : Lent) where
       × (searchAnswer alone lent ≡ record { found = soundFound 2; lent = held })
   alone-sound room = go (rw alone-answers at (right-of (P ∷ []) 2))
     where
-      go : Right (tableSystem 2 (P ∷ [])) 2 (sound 2)
+      go : RightJudgement (tableSystem 2 (P ∷ [])) 2 (sound 2)
           → (held : Lent) × Entered alone 2 lent held
           × (searchAnswer alone lent ≡ record { found = soundFound 2; lent = held })
       go (sound-right c low s) =
@@ -93,7 +93,7 @@ module _ (lent : Lent) where
       → searchAnswer alone lent ≡ record { found = refusedFound 20; lent = cleared lent }
   alone-many one = go (rw alone-crowded at (right-of (P ∷ []) 1))
     where
-      go : Right (tableSystem 2 (P ∷ [])) 1 tooMany
+      go : RightJudgement (tableSystem 2 (P ∷ [])) 1 tooMany
           → searchAnswer alone lent ≡ record { found = refusedFound 20; lent = cleared lent }
       go (tooMany-right m) =
           answer-is alone lent (is20 passes (rw (one, read .signals, read .rows-are) m))
@@ -111,7 +111,7 @@ module _ (lent : Lent) where
       × (searchAnswer both lent ≡ record { found = refusedFound 21; lent = held })
   both-refused room none = go (report-right (roomOf lent) room)
     where
-      go : Right (tableSystem 2 report) (roomOf lent) (trapped 2 (1 ∷ []) 1)
+      go : RightJudgement (tableSystem 2 report) (roomOf lent) (trapped 2 (1 ∷ []) 1)
           → (held : Lent) × Entered both 2 lent held
           × (searchAnswer both lent ≡ record { found = refusedFound 21; lent = held })
       go (trapped-right c low t) =

@@ -18,10 +18,10 @@ use Rattle.traces.specs.Trace.{run}
 use Rattle.traces.specs.inner.Entries.{back, traceOf}
 use Rattle.traces.specs.inner.Explore.{has, enter, visit, explore}
 use Rattle.traces.specs.inner.Least.{passBelow, breaksIn, lostWithin}
-use Rattle.traces.specs.inner.Answer.{Answer, Right, verdictFrom, answer}
-use Rattle.traces.specs.inner.Answer.Answer.{tooMany, sound, trapped}
-use Rattle.traces.specs.inner.Answer.Right.{trapped-right}
-use Rattle.traces.proofs.Answer.{answer-right}
+use Rattle.traces.specs.inner.Judgement.{Judgement, RightJudgement, verdictFrom, judge}
+use Rattle.traces.specs.inner.Judgement.Judgement.{tooMany, sound, trapped}
+use Rattle.traces.specs.inner.Judgement.RightJudgement.{trapped-right}
+use Rattle.traces.proofs.Judgement.{judge-right}
 use Rattle.step.specs.Phase.{codeOf, isBroken}
 use Rattle.step.specs.Step.{actionCheck, delayCheck, triggerCheck, stepRow}
 use Rattle.step.specs.Tick.{tick, tableSystem}
@@ -30,7 +30,7 @@ use Rattle.scratch.specs.inner.Same.{kindOf, elapsed, samePhase, samePhases}
 use Rattle.verdict.specs.Found.{trappedFound}
 use Rattle.search.specs.Lent.{Lent, roomOf, systemOf, traced}
 use Rattle.search.specs.inner.Computed.{judged, searchAnswer}
-use Rattle.scratch.proofs.Same.{phases-tell}
+use Rattle.scratch.proofs.Same.{phases-decided}
 use Rattle.demands.specs.examples.Cases.{P, Case, CaseMeans, trappedWith, isRight, starred}
 use Rattle.demands.specs.examples.Cases.{report}
 use Rattle.demands.specs.examples.Cases.{delayed}
@@ -42,12 +42,12 @@ use Rattle.demands.proofs.Described.{entries-entered}
 
 pub starred-right : every isRight starred ≡ true
 unfolding every isRight starred run codeOf stepRow triggerCheck delayCheck actionCheck bitAt setOf
-    trappedWith answer verdictFrom lostWithin breaksIn passBelow traceOf back explore visit enter
+    trappedWith judge verdictFrom lostWithin breaksIn passBelow traceOf back explore visit enter
     has samePhases samePhase kindOf elapsed tick some isBroken sameBytes
 starred-right = refl
 
 -- The test of an answer tells what it is.
-trapped-is : (w : List ℕ) (k n : ℕ) (r : Answer) → trappedWith w k n r ≡ true → r ≡ trapped n w k
+trapped-is : (w : List ℕ) (k n : ℕ) (r : Judgement) → trappedWith w k n r ≡ true → r ≡ trapped n w k
 unfolding trappedWith
 trapped-is w k n tooMany h = absurd (false≢true h)
 trapped-is w k n (sound m) h = absurd (false≢true h)
@@ -60,28 +60,28 @@ trapped-is w k n (trapped m v j) h =
 
 -- What is right of a trapped table stays right at every room that holds the states.
 trapped-room : (X : System) (room other : ℕ) (w : List ℕ) (k n : ℕ) → n ≤ other
-    → Right X room (trapped n w k) → Right X other (trapped n w k)
+    → RightJudgement X room (trapped n w k) → RightJudgement X other (trapped n w k)
 trapped-room X room other w k n h (trapped-right c q t) = trapped-right c h t
 
 table-right : (rows : List Row) (w : List ℕ) (k n : ℕ) → isRight (traps rows w k n) ≡ true
-    → (room : ℕ) → n ≤ room → Right (tableSystem 2 rows) room (trapped n w k)
+    → (room : ℕ) → n ≤ room → RightJudgement (tableSystem 2 rows) room (trapped n w k)
 unfolding isRight
 table-right rows w k n h room fits =
     let X = tableSystem 2 rows in
-    trapped-room X 8 room w k n fits (rw (trapped-is w k n (answer X samePhases 8) h) at
-    (answer-right X 8 (table-lawful 2 rows) samePhases (phases-tell 2 rows)))
+    trapped-room X 8 room w k n fits (rw (trapped-is w k n (judge X samePhases 8) h) at
+    (judge-right X 8 (table-lawful 2 rows) samePhases (phases-decided 2 rows)))
 
 -- The whole answer, with the scratch computed.
 module _ (rows : List Row) (w : List ℕ) (k n : ℕ) (h : isRight (traps rows w k n) ≡ true)
     (table : Table) (lent : Lent) (passes : tableValid table ≡ true) (signals : table .signals ≡ 2)
     (is : rowsOf table ≡ rows) (room : n ≤ roomOf lent) where
-  rightly : Right (systemOf table) (roomOf lent) (trapped n w k)
+  rightly : RightJudgement (systemOf table) (roomOf lent) (trapped n w k)
   rightly = rw (signals, is) (table-right rows w k n h (roomOf lent) room)
 
   fit : Fit table lent n
   fit = go rightly
     where
-      go : Right (systemOf table) (roomOf lent) (trapped n w k) → Fit table lent n
+      go : RightJudgement (systemOf table) (roomOf lent) (trapped n w k) → Fit table lent n
       go (trapped-right c low t) = record { passes = passes; count = c; room = low }
 
   table-is : length w ≤ length (lent .trace)
@@ -109,7 +109,7 @@ pub starred-means : (i : ℕ) → i < length starred → CaseMeans (getD starred
 starred-means i h = right-means _ (every-at isRight starred i (after P [] 0) starred-right h)
 
 -- "The report's table: trapped, trace 1, lost 1, two states."
-pub report-right : (room : ℕ) → 2 ≤ room → Right (tableSystem 2 report) room (trapped 2 (1 ∷ []) 1)
+pub report-right : (room : ℕ) → 2 ≤ room → RightJudgement (tableSystem 2 report) room (trapped 2 (1 ∷ []) 1)
 unfolding starred
 report-right room fits =
     table-right report (1 ∷ []) 1 2 (every-at isRight starred 14 (after P [] 0) starred-right

@@ -65,14 +65,14 @@ last-byte xs some =
     (drop-of-length-le xs {i = suc (length xs - 1)} (omega arith)))
 
 module _ (bytes : List ℕ) where
-  abbrev Answer : Type 0
-  Answer = (r : Reading) × RightReading bytes r
+  abbrev SomeReading : Type 0
+  SomeReading = (r : Reading) × RightReading bytes r
 
-  rules-found : (names rules : List (List ℕ)) → HasHeader bytes names rules → Answer
+  rules-found : (names rules : List (List ℕ)) → HasHeader bytes names rules → SomeReading
   rules-found names [] b = (_, is16 b)
   rules-found names (line ∷ rest) b = go (rows-found names mostRows (line ∷ rest))
     where
-      go : RowsFound names mostRows (line ∷ rest) → Answer
+      go : RowsFound names mostRows (line ∷ rest) → SomeReading
       go (all rows are few) = (
         _,
         isTable (record {
@@ -91,41 +91,41 @@ module _ (bytes : List ℕ) where
       go (over before rows ninth more e are full) =
           (_, is9 ninth more (subst (HasHeader bytes names) e b) are full)
 
-  signals-found : (names rest : List (List ℕ)) → HasNames bytes names rest → Answer
+  signals-found : (names rest : List (List ℕ)) → HasNames bytes names rest → SomeReading
   signals-found names rest n =
       go (decLe (length names) mostSignals) (allDistinct (map nameOf names)) refl
     where
       go : Dec (length names ≤ mostSignals) → (t : Bool) → allDistinct (map nameOf names) ≡ t
-          → Answer
+          → SomeReading
       go (no many) t e = (_, is7 n (omega arith))
       go (yes few) false e = (_, is8 n few e)
       go (yes few) true e = rules-found names rest (record { has-names = n; few = few; differ = e })
 
-  body-found : (body : List (List ℕ)) → AreLines bytes ((PNP ++ version1) ∷ body) → Answer
+  body-found : (body : List (List ℕ)) → AreLines bytes ((PNP ++ version1) ∷ body) → SomeReading
   body-found [] l = (_, is6missing l)
   body-found (line ∷ rest) l = go (line2-found line)
     where
-      go : Line2 line → Answer
+      go : Line2 line → SomeReading
       go (misshapen2 h) = (_, is6 l h)
       go (signals names s) =
           signals-found names rest (record { line2 = line; lines = l; signals = s })
 
-  lines-found : (all : List (List ℕ)) → AreLines bytes all → Answer
+  lines-found : (all : List (List ℕ)) → AreLines bytes all → SomeReading
   lines-found [] l = absurd (let z = l .some in omega arith)
   lines-found (line ∷ rest) l = go (line1-found line)
     where
-      go : Line1 line → Answer
+      go : Line1 line → SomeReading
       go (misshapen h) = (_, is4 l h)
       go (other version h other-version) = (_, is5 l h other-version)
       go (first e) =
           body-found rest (subst (λ (top : List ℕ). AreLines bytes (top ∷ rest)) e l)
 
-  found : Answer
+  found : SomeReading
   found = go (ℕ-discrete (length bytes) 0) (decLe (length bytes) mostBytes)
       (ℕ-discrete (getD bytes (length bytes - 1) 0) LF)
     where
       go : Dec (length bytes ≡ 0) → Dec (length bytes ≤ mostBytes)
-          → Dec (getD bytes (length bytes - 1) 0 ≡ LF) → Answer
+          → Dec (getD bytes (length bytes - 1) 0 ≡ LF) → SomeReading
       go (yes e) few end = (_, is1 (length-none bytes e))
       go (no some) (no many) end = (_, is2 (omega arith))
       go (no some) (yes few) (no end) = (

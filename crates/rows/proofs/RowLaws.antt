@@ -32,7 +32,7 @@ use Rattle.rows.specs.declared.Field.the-variants.{Value, Refused}
 use Rattle.rows.specs.declared.Values.{Values}
 use Rattle.rows.specs.inner.Row.{boundAt, ticksField, judgedField, fieldOf, fieldsOf}
 use Rattle.rows.specs.inner.Row.{numberAmong, valueOf, setsFrom, boundsFrom, boundsOrdered}
-use Rattle.rows.specs.inner.Row.{rowRead, rowRefused, rowFields}
+use Rattle.rows.specs.inner.Row.{judgedRow, rowRefused, rowFields}
 use Rattle.rows.specs.Row.{ruleWord}
 use Rattle.rows.specs.inner.Gathering.{valuesAnswer}
 use Rattle.conditions.proofs.Judging.{judge-some}
@@ -215,10 +215,10 @@ cut-same (x ∷ xs) h =
 -- A row of the values v, of which b are the bounds.
 module _ (v b : List ℕ) (same : b ≡ boundsFrom v) where
   pub row-ordered : boundsOrdered b ≡ true
-      → rowRead v ≡ record { number = 0; sets = setsFrom v; bounds = b }
+      → judgedRow v ≡ record { number = 0; sets = setsFrom v; bounds = b }
   row-ordered passes = rw same (rw (rw same at passes))
 
-  pub row-crossed : boundsOrdered b ≡ false → rowRead v ≡ rowRefused 15
+  pub row-crossed : boundsOrdered b ≡ false → judgedRow v ≡ rowRefused 15
   row-crossed fails = rw (rw same at fails)
 
 -- The commas of a row's line all stand after `rule `.
@@ -259,7 +259,7 @@ module _ (fields : List Field) (values : Values) (read : values ≡ valuesAnswer
     unfolding valuesAnswer
     values-held = rw (read, clean)
 
-    pub row-passed : rowFields fields ≡ rowRead (values .values)
+    pub row-passed : rowFields fields ≡ judgedRow (values .values)
     unfolding rowFields
     row-passed = rw (clean, values-held)
 

@@ -17,7 +17,7 @@ ghost use Rattle.text.specs.Lines.{comma};
 ghost use Rattle.text.specs.Lines.{count};
 ghost use Rattle.text.specs.inner.Cut.{front};
 ghost use Rattle.rows.specs.inner.Row.{rowFrom, boundAt, boundField, conditionField, fieldOf};
-ghost use Rattle.rows.specs.inner.Row.{faultOf, lineFields, boundsFrom, rowRead, rowRefused};
+ghost use Rattle.rows.specs.inner.Row.{faultOf, lineFields, boundsFrom, judgedRow, rowRefused};
 ghost use Rattle.rows.specs.inner.Row.{rowAnswer};
 ghost use Rattle.rows.specs.inner.Gathering.{valuesAnswer};
 
@@ -154,7 +154,7 @@ fn small(v: u64) -> u8
 // The sets and bounds of the values; or 15, if a least is above its most.
 fn judge_row(v: [u64; FIELDS]) -> RowRead
     requires { ⌜ every (λ b. ltb b 256) (boundsFrom v) ≡ true ⌝ }
-    ensures { λ r. ⌜ r ≡ rowRead v ⌝ }
+    ensures { λ r. ⌜ r ≡ judgedRow v ⌝ }
 {
     let sets = [v[0], v[1], v[2], v[7], v[8], v[9]];
     let bounds = [

@@ -39,7 +39,7 @@ use tally::counted;
 use tally::none;
 use tally::noted;
 use tally::print;
-use tally::told;
+use tally::reported;
 use verdict::Found;
 
 const TABLES: u64 = 10000;
@@ -106,7 +106,7 @@ fn attempt(
         noted,
         right,
         table.count,
-        told(changed, differs),
+        reported(changed, differs),
         solved.kinds,
     )
 }

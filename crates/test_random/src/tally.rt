@@ -119,7 +119,7 @@ pub fn noted(tally: Tally, struck: bool, differs: u16) -> Tally {
 }
 
 // What differs, but for a place that was changed to see that it is noticed.
-pub fn told(struck: bool, differs: u16) -> u16 {
+pub fn reported(struck: bool, differs: u16) -> u16 {
     if struck {
         unless(differs != 0, 11)
     } else {

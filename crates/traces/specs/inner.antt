@@ -5,7 +5,7 @@ pub mod Numbers
 pub mod Explore
 pub mod Least
 pub mod Entries
-pub mod Answer
+pub mod Judgement
 pub mod Lists
 pub mod Survival
 pub mod Verdicts

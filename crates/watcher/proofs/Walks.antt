@@ -60,11 +60,11 @@ byValue ps s ks = record {
 
 module _ {M : Type 1} (𝓤 : URA M) (H : Heap 𝓤) (A : Atoms 𝓤) (T : Ended) (c : Clauses 𝓤 T) where
   -- The triple that a caller has of a function.
-  abbrev pub Meant : Contract 𝓤
-  Meant = tripleOf 𝓤 H A (T .signature) (closing 𝓤 H A T c)
+  abbrev pub CallContract : Contract 𝓤
+  CallContract = tripleOf 𝓤 H A (T .signature) (closing 𝓤 H A T c)
 
   -- Its `ensures` states Φ of the result and of the last values of what was lent to it.
-  abbrev States : (x : Meant .Ghost)
+  abbrev States : (x : CallContract .Ghost)
       → (Res (T .signature) (x .0 .0) → Lasts T (x .0 .0) (x .0 .3) → Type 0) → Type 1
   States x Φ = (r : Res (T .signature) (x .0 .0)) (ws : Lasts T (x .0 .0) (x .0 .3))
       → ent 𝓤 (c (x .0 .0) (x .0 .3) .ensures (x .1) r (atExit T (x .0 .0) (x .0 .3) ws))
@@ -173,14 +173,14 @@ module _ {M : Type 1} {𝓤 : URA M} {H : Heap 𝓤} {A : Atoms 𝓤} {K : Type 
   -- to it. In hand are the result r, the last values, the result's relation to the machine value v,
   -- and what the `ensures` states of them.
   pub given-lasts : {G : Goal 𝓤 H} → K → Soaks G → (T : Ended) (c : Clauses 𝓤 T)
-      (x : Meant 𝓤 H A T c .Ghost) (v : Val)
+      (x : CallContract 𝓤 H A T c .Ghost) (v : Val)
       (Φ : Res (T .signature) (x .0 .0) → Lasts T (x .0 .0) (x .0 .3) → Type 0)
       → States 𝓤 H A T c x Φ → ((r : Res (T .signature) (x .0 .0))
       (ws : Lasts T (x .0 .0) (x .0 .3))
       → Is (typeAt (T .signature .result) (x .0 .0)) r (v ∷ []) → Φ r ws
       → Seq K W (raw (alive 𝓤 H A (T .signature) (x .0 .0) (x .0 .1))
       ∷ ‵ (lasts T (x .0 .0) (x .0 .3) ws) ∷ Γ) G)
-      → Seq K W (raw (Meant 𝓤 H A T c .post x v) ∷ Γ) G
+      → Seq K W (raw (CallContract 𝓤 H A T c .post x v) ∷ Γ) G
   given-lasts t z T c x v Φ states k =
       let R : RattleType = typeAt (T .signature .result) (x .0 .0) in
       use1 W (later (any (λ (r : R .Denot).
@@ -199,11 +199,11 @@ module _ {M : Type 1} {𝓤 : URA M} {H : Heap 𝓤} {A : Atoms 𝓤} {K : Type 
 
   -- The same, where the last values are let go.
   pub given-back : {G : Goal 𝓤 H} → K → Soaks G → (T : Ended) (c : Clauses 𝓤 T)
-      (x : Meant 𝓤 H A T c .Ghost) (v : Val) (Φ : Res (T .signature) (x .0 .0) → Type 0)
+      (x : CallContract 𝓤 H A T c .Ghost) (v : Val) (Φ : Res (T .signature) (x .0 .0) → Type 0)
       → States 𝓤 H A T c x (λ r _. Φ r) → ((r : Res (T .signature) (x .0 .0))
       → Is (typeAt (T .signature .result) (x .0 .0)) r (v ∷ []) → Φ r
       → Seq K W (raw (alive 𝓤 H A (T .signature) (x .0 .0) (x .0 .1)) ∷ Γ) G)
-      → Seq K W (raw (Meant 𝓤 H A T c .post x v) ∷ Γ) G
+      → Seq K W (raw (CallContract 𝓤 H A T c .post x v) ∷ Γ) G
   given-back t z T c x v Φ states k =
       given-lasts t z T c x v (λ r _. Φ r) states
       (λ r ws is e. move t (1 ∷ []) $ drop! t $ k r is e)
@@ -214,24 +214,24 @@ module _ {M : Type 1} {𝓤 : URA M} {H : Heap 𝓤} {A : Atoms 𝓤} {K : Type 
     -- A call of a function of plain data and no lifetime: what it is passed is had for nothing and
     -- what it gives back is a fact. The operands are read with what it asks at the context's head.
     pub calls-plain : K → FmC 𝓤 H (W .laws) C → (c : Clauses 𝓤 (byValue ps s ks))
-        → Triple 𝓤 (C f) (Meant 𝓤 H A (byValue ps s ks) c)
+        → Triple 𝓤 (C f) (CallContract 𝓤 H A (byValue ps s ks) c)
         → (a : Args (byValue ps s ks .signature) tt) (vss : Vals (byValue ps s ks .signature) tt)
         → Are (typesAt ps tt) (Ises (typesAt ps tt)) a vss
         → Makess 𝓤 H A (typesAt ps tt) (Ises (typesAt ps tt))
         → (g : c tt a .ghost) → ent 𝓤 (emp 𝓤) (c tt a .requires g)
         → (Φ : typeAt s tt .Denot → Type 0)
         → States 𝓤 H A (byValue ps s ks) c ((tt, tt, tt, a, vss), g) (λ r _. Φ r)
-        → Opds K W (raw (Meant 𝓤 H A (byValue ps s ks) c .pre ((tt, tt, tt, a, vss), g)) ∷ Γ) E xs
-        (Meant 𝓤 H A (byValue ps s ks) c .args ((tt, tt, tt, a, vss), g))
+        → Opds K W (raw (CallContract 𝓤 H A (byValue ps s ks) c .pre ((tt, tt, tt, a, vss), g)) ∷ Γ) E xs
+        (CallContract 𝓤 H A (byValue ps s ks) c .args ((tt, tt, tt, a, vss), g))
         → ((v : Val) (r : typeAt s tt .Denot) → Is (typeAt s tt) r (v ∷ []) → Φ r
         → Seq K W Γ (lands C Λ E d v rest q)) → Seq K W Γ (runs C Λ E (seq (call f xs d) rest) q)
     calls-plain t fm c known a vss are makes g asks Φ states os k =
-        use0 W (raw (Meant 𝓤 H A (byValue ps s ks) c .pre ((tt, tt, tt, a, vss), g)))
+        use0 W (raw (CallContract 𝓤 H A (byValue ps s ks) c .pre ((tt, tt, tt, a, vss), g)))
         (via 𝓤 (sep 𝓤 (emp 𝓤) (emp 𝓤)) (emp∗ 𝓤 (emp 𝓤))
         (mono∗ 𝓤 (via 𝓤 (sep 𝓤 (emp 𝓤) (emp 𝓤)) (emp∗ 𝓤 (emp 𝓤))
         (monoR 𝓤 (emp 𝓤)
         (owns-make 𝓤 H A (typesAt ps tt) (Ises (typesAt ps tt)) makes a vss are))) asks)) $
-        calls-at t fm (Meant 𝓤 H A (byValue ps s ks) c) known ((tt, tt, tt, a, vss), g) os (λ v.
+        calls-at t fm (CallContract 𝓤 H A (byValue ps s ks) c) known ((tt, tt, tt, a, vss), g) os (λ v.
         given-back t tt (byValue ps s ks) c ((tt, tt, tt, a, vss), g) v Φ states
         (λ r is e. drop! t $ k v r is e))
 

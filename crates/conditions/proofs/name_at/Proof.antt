@@ -27,8 +27,8 @@ sub-name-of c = omega (arith, ends c)
 part-name-of-start : tie.Need-part-name-of-start
 part-name-of-start c = omega (arith, ends c)
 
-add-t11 : tie.Need-add-t11
-add-t11 c = omega (arith, ends (c .before .before .before .before .before))
+add-t16 : tie.Need-add-t16
+add-t16 c = omega (arith, ends (c .before .before .before .before .before))
 
 -- How many names are used.
 used-length : (c : tie.Joined3)
@@ -51,4 +51,4 @@ name-at-spec =
     tie.close (tie.spec
     (λ c κs. search needs) returns returns-2 sub-name-of part-name-of-start
     (λ c. search needs) (λ c κs. search needs) (λ c κs. search needs) (λ c κs. search needs)
-    add-t11 returns-3)
+    (λ c. search needs) add-t16 returns-3)

@@ -12,8 +12,8 @@ use Rattle.table.specs.Valid.{tableValid, rowsOf}
 use Rattle.table.specs.declared.Row.{Row}
 use Rattle.table.specs.declared.Table.{Table}
 use Rattle.traces.specs.Trace.{run}
-use Rattle.traces.specs.inner.Answer.{Answer, answer}
-use Rattle.traces.specs.inner.Answer.Answer.{tooMany, sound, trapped}
+use Rattle.traces.specs.inner.Judgement.{Judgement, judge}
+use Rattle.traces.specs.inner.Judgement.Judgement.{tooMany, sound, trapped}
 use Rattle.step.specs.declared.Phase.the-variants.{Waiting}
 use Rattle.step.specs.Phase.{codeOf}
 use Rattle.step.specs.Tick.{rowSystem, tableSystem}
@@ -77,7 +77,7 @@ pub data Case : Type 0 where
   after : Row → List ℕ → ℕ → Case
   traps : List Row → List ℕ → ℕ → ℕ → Case
 
-unfoldable pub trappedWith : List ℕ → ℕ → ℕ → Answer → Bool
+unfoldable pub trappedWith : List ℕ → ℕ → ℕ → Judgement → Bool
 trappedWith w k n tooMany = false
 trappedWith w k n (sound m) = false
 trappedWith w k n (trapped m v j) = sameBytes v w && eqb j k && eqb m n
@@ -85,7 +85,7 @@ trappedWith w k n (trapped m v j) = sameBytes v w && eqb j k && eqb m n
 -- What is computed: a room of 8 is enough.
 unfoldable pub isRight : Case → Bool
 isRight (after row letters code) = eqb (codeOf (run (rowSystem 2 row) Waiting letters)) code
-isRight (traps rows w k n) = trappedWith w k n (answer (tableSystem 2 rows) samePhases 8)
+isRight (traps rows w k n) = trappedWith w k n (judge (tableSystem 2 rows) samePhases 8)
 
 -- What it means: the phase after the letters; or the whole answer of the search, for every table
 -- value with those rows and all lent memory that holds the states and the trace.

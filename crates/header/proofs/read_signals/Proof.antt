@@ -76,9 +76,9 @@ module _ (c : tie.After-find2 Inv-loop μ-loop) where
       let e : from + c .find2 .result - from ≡ c .find2 .result = omega arith in
       ap (λ (k : ℕ). take k (drop from whole)) e ∙ part-front space (drop from whole) found
 
-told : (c : tie.After-is-name Inv-loop μ-loop)
+shape-is : (c : tie.After-is-name Inv-loop μ-loop)
     → nameShaped (word (c .before .before)) ≡ c .is-name .result
-told c = ap nameShaped (sym (part (c .before .before))) ∙ sym (c .is-name .ensures)
+shape-is c = ap nameShaped (sym (part (c .before .before))) ∙ sym (c .is-name .ensures)
 
 returns : tie.Need-returns Inv-loop μ-loop
 returns c =
@@ -115,7 +115,7 @@ returns-3 c =
     ∙ sym (answer-name _ (first-is (q .before))
     (naming-stops _ _ _ _ _ (q .loop .inv .1 .0)
     (named .before .before .before .before .loop-test .taken)
-    (told named ∙ not-true _ (c .before .if3 .taken))))
+    (shape-is named ∙ not-true _ (c .before .if3 .taken))))
 
 part-name-of-end : tie.Need-part-name-of-end Inv-loop μ-loop
 part-name-of-end c = fits (c .before .before .before)
@@ -125,7 +125,7 @@ loop-again c =
     let named = c .before .before .before .before in
     let f2 = named .before .before in
     let q = f2 .before .before .before in
-    let right = told named ∙ not-false _ (c .before .before .before .if3 .left) in
+    let right = shape-is named ∙ not-false _ (c .before .before .before .if3 .left) in
     let name = c .before .name-of .ensures
     ∙ ap nameOf (ap (take 8) (part f2) ∙ take-all 8 (word f2) (shaped-name (word f2) right .few)) in
     let more = c .with-name .ensures ∙ ap (nameAdded (q .loop .kept .names) (q .loop .n)) name in (

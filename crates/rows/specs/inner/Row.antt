@@ -86,8 +86,8 @@ boundsOrdered b =
 abbrev pub rowRefused : ℕ → RowRead
 rowRefused number = record { number = number; sets = replicate 6 0; bounds = replicate 6 0 }
 
-abbrev pub rowRead : List ℕ → RowRead
-rowRead v =
+abbrev pub judgedRow : List ℕ → RowRead
+judgedRow v =
     cond (boundsOrdered (boundsFrom v))
     (record { number = 0; sets = setsFrom v; bounds = boundsFrom v })
     (rowRefused 15)
@@ -98,7 +98,7 @@ ruleShaped line = startsWith ruleWord line && eqb (count comma line) 11
 
 unfoldable pub rowFields : List Field → RowRead
 rowFields fields =
-    cond (eqb (numberAmong fields) 0) (rowRead (map valueOf fields))
+    cond (eqb (numberAmong fields) 0) (judgedRow (map valueOf fields))
     (rowRefused (numberAmong fields))
 
 abbrev pub lineFields : List Name → ℕ → List ℕ → List Field

@@ -48,7 +48,7 @@ use Rattle.watcher.specs.declared.Ticked.{Ticked}
 use Rattle.watcher.proofs.Lent.{Lent, lentOf, Typed, signalsVal, letterVal, token, tickArgs}
 use Rattle.watcher.proofs.Lent.{rowsVal, rowsArgs, rowsVals, RowsOwn, stateVal, answer}
 use Rattle.watcher.proofs.Lent.{LentState, lentStateOf, stateToken, statePtr, tickVals}
-use Rattle.watcher.proofs.Walks.{Meant, fits, holds, holds-uint, spot, copied, part-copied}
+use Rattle.watcher.proofs.Walks.{CallContract, fits, holds, holds-uint, spot, copied, part-copied}
 use Rattle.watcher.proofs.Walks.{given-back, allots, frees-all, has, frame, falling, paired}
 use Rattle.watcher.proofs.Walks.{says-both, shown}
 use Rattle.watcher.proofs.Watch as T
@@ -91,7 +91,7 @@ module _ {M : Type 1} (𝓤 : URA M) (H : Heap 𝓤) (A : Atoms 𝓤) (at-mem : 
     (run : Routine → Fun 𝓤) where
   -- The contract that the proof cites.
   abbrev Callee : Contract 𝓤
-  Callee = Meant 𝓤 H A rows.ended (rows.clauses 𝓤 H A at-mem run)
+  Callee = CallContract 𝓤 H A rows.ended (rows.clauses 𝓤 H A at-mem run)
 
 module _ {M : Type 1} (𝓤 : URA M) (H : Heap 𝓤) (A : Atoms 𝓤) (W : Given 𝓤 H A)
     (at-mem : Memory → SProp 𝓤) (run : Routine → Fun 𝓤) (x : Lent) (y : LentState) where

@@ -49,7 +49,7 @@ use Rattle.watcher.specs.inner.Pass.{begun, passOver, finished}
 use Rattle.watcher.proofs.Passes.{pass-end, pass-answer}
 use Rattle.watcher.proofs.Lent.{Lent, lentOf, Typed, count, signalsVal, letterVal, token}
 use Rattle.watcher.proofs.Lent.{rowsVal, stateVal, answer, rowsArgs, rowsVals}
-use Rattle.watcher.proofs.Walks.{slots-all, Meant, fits, made, made-uint, holds, spot}
+use Rattle.watcher.proofs.Walks.{slots-all, CallContract, fits, made, made-uint, holds, spot}
 use Rattle.watcher.proofs.Walks.{copied, part-copied, calls-plain, allots, frees-all, has}
 use Rattle.watcher.proofs.Walks.{falling, paired, shown}
 use Rattle.watcher.proofs.Watch as T
@@ -86,9 +86,9 @@ module _ {M : Type 1} (𝓤 : URA M) (H : Heap 𝓤) (A : Atoms 𝓤) (mem : Mem
     (run : Routine → Fun 𝓤) where
   -- What the walk knows of the functions that it calls.
   record Known (C : Calls 𝓤 H) : Type 1 where
-    begins : Triple 𝓤 (C #begin) (Meant 𝓤 H A begin.ended (begin.clauses 𝓤 H A mem run))
-    takes : Triple 𝓤 (C #take-row) (Meant 𝓤 H A take.ended (take.clauses 𝓤 H A mem run))
-    finishes : Triple 𝓤 (C #finish) (Meant 𝓤 H A finish.ended (finish.clauses 𝓤 H A mem run))
+    begins : Triple 𝓤 (C #begin) (CallContract 𝓤 H A begin.ended (begin.clauses 𝓤 H A mem run))
+    takes : Triple 𝓤 (C #take-row) (CallContract 𝓤 H A take.ended (take.clauses 𝓤 H A mem run))
+    finishes : Triple 𝓤 (C #finish) (CallContract 𝓤 H A finish.ended (finish.clauses 𝓤 H A mem run))
 
 module _ {M : Type 1} (𝓤 : URA M) (H : Heap 𝓤) (A : Atoms 𝓤) (W : Given 𝓤 H A)
     (mem : Memory → SProp 𝓤) (run : Routine → Fun 𝓤) (x : Lent) where

@@ -36,16 +36,16 @@ returns-3 : tie.Need-returns-3
 unfolding finished answered
 returns-3 c =
     let past = c .before .before in
-    let told = past .before .before .before .before .letter-valid in
-    let fails = sym (told .ensures) ∙ not-true _ (c .before .if3 .taken) in
+    let valid = past .before .before .before .before .letter-valid in
+    let fails = sym (valid .ensures) ∙ not-true _ (c .before .if3 .taken) in
     rw (rules-valid (past .before .before), phases-valid past, fails) (c .refused3 .ensures)
 
 returns-4 : tie.Need-returns-4
 unfolding finished answered
 returns-4 c =
     let past = c .before in
-    let told = past .before .before .before .before .letter-valid in
-    let passes = sym (told .ensures) ∙ not-false _ (c .if3 .left) in
+    let valid = past .before .before .before .before .letter-valid in
+    let passes = sym (valid .ensures) ∙ not-false _ (c .if3 .left) in
     rw (rules-valid (past .before .before), phases-valid past, passes)
 
 pub finish-spec : {M : Type 1} → statement M

@@ -19,7 +19,7 @@ use denote.Triple.Statement.{Contract, Triple}
 use Rattle.table.specs.declared.Outcome.{Outcome}
 use Rattle.watcher.proofs.Lent.{Lent, token, RowsOwn, answer, LentState, stateToken}
 use Rattle.watcher.proofs.Lent.{StateOwn, tickArgs, tickVals}
-use Rattle.watcher.proofs.Walks.{Meant, holds-uint}
+use Rattle.watcher.proofs.Walks.{CallContract, holds-uint}
 use Rattle.watcher.proofs.rows_lent as counted
 use Rattle.watcher.proofs.rows_lent.Symbol.{name as #rows-lent}
 use Rattle.watcher.proofs.tick as tick
@@ -29,12 +29,12 @@ module _ {M : Type 1} (𝓤 : URA M) (H : Heap 𝓤) (A : Atoms 𝓤) (at-mem : 
     (run : Routine → Fun 𝓤) where
   -- The contract of `tick`.
   abbrev pub Tick : Contract 𝓤
-  Tick = Meant 𝓤 H A tick.ended (tick.clauses 𝓤 H A at-mem run)
+  Tick = CallContract 𝓤 H A tick.ended (tick.clauses 𝓤 H A at-mem run)
 
   -- What is known of both functions.
   pub record Known (C : Calls 𝓤 H) : Type 1 where
     pub counts : Triple 𝓤 (C #rows-lent)
-        (Meant 𝓤 H A counted.ended (counted.clauses 𝓤 H A at-mem run))
+        (CallContract 𝓤 H A counted.ended (counted.clauses 𝓤 H A at-mem run))
     pub ticks : Triple 𝓤 (C #tick) Tick
 
   module _ (x : Lent) (y : LentState) where

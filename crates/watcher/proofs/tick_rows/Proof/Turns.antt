@@ -36,7 +36,7 @@ use Rattle.watcher.specs.inner.Pass.{begun, rowTaken, passOver}
 use Rattle.watcher.proofs.Passes.{pass-next}
 use Rattle.watcher.proofs.Lent.{Lent, Typed, count, signalsVal, letterVal, token, rowsVal}
 use Rattle.watcher.proofs.Lent.{RowsOwn, row, rowVal, rowBytes, rowPlace, stateVal}
-use Rattle.watcher.proofs.Walks.{Meant, fits, made, made-uint, spot, copied, part-copied}
+use Rattle.watcher.proofs.Walks.{CallContract, fits, made, made-uint, spot, copied, part-copied}
 use Rattle.watcher.proofs.Walks.{calls-plain, frame, has, room, deaths}
 use Rattle.watcher.proofs.pass.Pass as P
 use Rattle.watcher.proofs.pass.Pass.Laws as P′
@@ -74,7 +74,7 @@ module _ {M : Type 1} (𝓤 : URA M) (H : Heap 𝓤) (x : Lent) (a : ℕ → ℕ
 
 module _ {M : Type 1} (𝓤 : URA M) (H : Heap 𝓤) (A : Atoms 𝓤) (W : Given 𝓤 H A)
     (mem : Memory → SProp 𝓤) (run : Routine → Fun 𝓤) (𝓣 : Tables 𝓤 H)
-    (takes : Triple 𝓤 (𝓣 .C #take-row) (Meant 𝓤 H A take.ended (take.clauses 𝓤 H A mem run)))
+    (takes : Triple 𝓤 (𝓣 .C #take-row) (CallContract 𝓤 H A take.ended (take.clauses 𝓤 H A mem run)))
     (x : Lent) (typed : Typed x) (a : ℕ → ℕ) where
   abbrev pub Again : Turn x → SProp 𝓤
   Again t = Below 𝓤 H A (Fewer x) (At 𝓤 H x a) t
