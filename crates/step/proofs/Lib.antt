@@ -1,7 +1,9 @@
--- `Checks` serves the functions' proofs; `Codes`, `States`, `Rows` and `Systems` are laws of the
--- step rules.
+-- `Checks` serves the functions' proofs; `Codes`, `States`, `Rows`, `Systems` and `RowEvents` are
+-- laws of the step rules.
 pub mod Checks
 pub mod Codes
 pub mod States
 pub mod Rows
 pub mod Systems
+pub mod RowEvents
+pub mod Happened

@@ -1,2 +1,4 @@
 -- What only the further promises speak of.
 pub mod Codes
+pub mod Events
+pub mod Happened

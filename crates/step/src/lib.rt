@@ -33,6 +33,17 @@ pub enum Phase {
     Broken,
 }
 
+// What can happen to a row at a tick: its trigger starts, is realised or is aborted; its action
+// starts (`acting`) or is completed; the row becomes broken.
+pub struct Events {
+    pub started: bool,
+    pub realised: bool,
+    pub aborted: bool,
+    pub acting: bool,
+    pub completed: bool,
+    pub broken: bool,
+}
+
 // What one letter does to a row.
 pub struct Stepped {
     pub phase: Phase,
