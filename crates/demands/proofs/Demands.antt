@@ -33,8 +33,8 @@ use Rattle.search.specs.inner.Computed.{searchAnswer}
 use Rattle.demands.specs.Watching.{recordAfter, CallValid}
 use Rattle.demands.specs.Searching.{searchValues, Dead, EarliestDead, CanGoOn, Fit}
 use Rattle.demands.specs.Searching.{Entered, RightAnswer, SameLengths, SameScratch}
-use Rattle.demands.specs.Reporting.{RightReport, ProgramPrints}
-use Rattle.checker.specs.FileReport.{FileReport, programLent}
+use Rattle.demands.specs.Reporting.{RightReport}
+use Rattle.checker.specs.FileReport.{FileReport}
 use Rattle.checker.specs.inner.Computed.{checkAnswer}
 use Rattle.demands.proofs.Reading as Reading
 use Rattle.demands.proofs.Watching as Watching
@@ -182,7 +182,3 @@ module _ (bytes : List ℕ) (lent : Lent) where
   -- The program reads no more of a file than its first 4,097 bytes: they have the report of all.
   pub first-bytes : checkAnswer (take (suc mostBytes) bytes) lent ≡ checkAnswer bytes lent
   first-bytes = Reported.first-bytes bytes lent
-
--- What `checktable` can print: never 17, 18, 19 or 21, nor an answer that is none.
-pub program-prints : (bytes : List ℕ) → ProgramPrints (checkAnswer bytes programLent .report)
-program-prints = Reported.program-prints

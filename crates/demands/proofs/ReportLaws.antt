@@ -23,7 +23,7 @@ use Rattle.verdict.proofs.Buffer.{written-front, written-length}
 use Rattle.search.specs.Lent.{Lent, Searched, roomOf, systemOf}
 use Rattle.search.specs.inner.Computed.{searchAnswer}
 use Rattle.report.specs.Report.{heading, refusedLine, sizeLines, soundLine, trappedLine, tickLines}
-use Rattle.report.specs.Report.{lostWord, reportLines}
+use Rattle.report.specs.Report.{lostLine, reportLines}
 use Rattle.report.specs.further.Trace.{TraceInBuffer}
 use Rattle.checker.specs.FileReport.{programLent}
 use Rattle.checker.specs.inner.Computed.{checkAnswer}
@@ -64,7 +64,7 @@ module _ (bytes : List ℕ) (lent : Lent) where
           → length w ≤ length (lent .trace)
           → checkAnswer bytes lent .report
           ≡ ended (heading ∷ sizeLines (table .count) n ++ trappedLine
-          ∷ tickLines (table .signals) 1 w ++ (lostWord ++ decimal k) ∷ [])
+          ∷ tickLines (table .signals) 1 w ++ lostLine k ∷ [])
       unfolding checkAnswer reportLines
       trapped-report w k trapped short =
           rw (

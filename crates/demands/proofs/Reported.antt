@@ -23,9 +23,10 @@ use Rattle.search.specs.Lent.{Lent, Searched}
 use Rattle.report.specs.Report.{reportLines, reportBytes}
 use Rattle.checker.specs.FileReport.{FileReport, programLent}
 use Rattle.checker.specs.inner.Computed.{checkAnswer}
-use Rattle.demands.specs.Reporting.{RightReport, ProgramPrints}
+use Rattle.demands.specs.Reporting.{RightReport}
+use Rattle.demands.specs.further.Program.{ProgramPrints}
 use Rattle.demands.specs.Reporting.RightReport.{refused, searched}
-use Rattle.demands.specs.Reporting.ProgramPrints.{refused as refusal, many, sound, trapped}
+use Rattle.demands.specs.further.Program.ProgramPrints.{refused as refusal, many, sound, trapped}
 use Rattle.demands.specs.inner.Answers.{ComputedAnswer}
 use Rattle.demands.specs.inner.Answers.ComputedAnswer.{is17, is20, is21, isSound, isTrapped}
 use Rattle.demands.proofs.Answers.{one-of-five, answer-is}
@@ -49,7 +50,7 @@ module _ (bytes : List ℕ) (lent : Lent) where
   report-only f (searched {table = table} file right) =
       rw (file-accepted bytes table file, answer-is table lent (computed table lent right))
 
--- What the program can print.
+-- What the program can print: never 17, 18, 19 or 21, nor an answer that is none.
 module _ (bytes : List ℕ) where
   by-answer : (table : Table) → IsFile bytes table → {a : Searched}
       → ComputedAnswer table programLent a

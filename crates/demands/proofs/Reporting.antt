@@ -18,7 +18,7 @@ use Rattle.verdict.specs.Found.{Verdict, valuesOf}
 use Rattle.search.specs.Lent.{Lent, roomOf, systemOf}
 use Rattle.search.specs.inner.Computed.{searchAnswer}
 use Rattle.report.specs.Report.{heading, refusedLine, sizeLines, soundLine, trappedLine, tickLines}
-use Rattle.report.specs.Report.{lostWord, reportBytes}
+use Rattle.report.specs.Report.{lostLine, reportBytes}
 use Rattle.report.specs.further.Trace.{TraceInBuffer}
 use Rattle.report.proofs.Injective.{SameReported, bytes-injective}
 use Rattle.checker.specs.FileReport.{programLent, mostReport}
@@ -82,7 +82,7 @@ module _ (bytes : List ℕ) (lent : Lent) where
           → length w ≤ length (lent .trace)
           → checkAnswer bytes lent .report
           ≡ ended (heading ∷ sizeLines (table .count) n ++ trappedLine
-          ∷ tickLines (table .signals) 1 w ++ (lostWord ++ decimal k) ∷ [])
+          ∷ tickLines (table .signals) 1 w ++ lostLine k ∷ [])
       trapped-report w k shown = Laws.trapped-report bytes lent table file n fit w k
           (trapped-means (systemOf table) w k .1 shown)
 

@@ -7,7 +7,7 @@ use mathlib.Core.Path.{_≡_, refl, sym, ap, _∙_}
 use borrow.Author.Tests.{lt-ltb}
 use Rattle.letters.specs.Letter.{letters, letterValid}
 use Rattle.letters.specs.Lists.{every}
-use Rattle.table.specs.Refusal.{numberOf, lineOf}
+use Rattle.table.specs.further.Numbers.{numberOf, lineOf}
 use Rattle.table.specs.Valid.{tableValid, rowsOf}
 use Rattle.table.specs.declared.Table.{Table}
 use Rattle.table.specs.declared.Outcome.the-variants.{Accepted as Taken}

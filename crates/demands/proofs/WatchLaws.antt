@@ -30,7 +30,7 @@ use Rattle.watcher.specs.declared.Ticked.{Ticked}
 use Rattle.watcher.specs.declared.Watch.{Watch}
 use Rattle.watcher.specs.Watch.{phasesOf, watchOf, startWatch}
 use Rattle.watcher.specs.Answer.{firstNumber, answered, tickAnswer}
-use Rattle.table.specs.Refusal.{numberOf, lineOf}
+use Rattle.table.specs.further.Numbers.{numberOf, lineOf}
 use Rattle.watcher.proofs.Records.{phases-watch}
 use Rattle.table.specs.Limits.{mostRows}
 use Rattle.demands.specs.Watching.{recordAfter, CallValid}

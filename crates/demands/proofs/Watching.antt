@@ -28,7 +28,7 @@ use Rattle.watcher.specs.declared.Watch.{Watch}
 use Rattle.watcher.specs.Watch.{phasesOf, watchOf, startWatch}
 use Rattle.watcher.specs.Answer.{firstNumber, tickAnswer}
 use Rattle.watcher.specs.inner.Tables.{tableTick, tablePlay}
-use Rattle.table.specs.Refusal.{numberOf, lineOf}
+use Rattle.table.specs.further.Numbers.{numberOf, lineOf}
 use Rattle.watcher.proofs.Records.{watch-phases, phases-watch}
 use Rattle.demands.specs.Watching.{recordAfter, CallValid}
 use Rattle.demands.proofs.WatchLaws as Laws

@@ -1,2 +1,3 @@
 -- What only the further promises speak of, those that stand by subject beside `Demands`.
 pub mod Doomed
+pub mod Program

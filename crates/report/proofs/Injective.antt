@@ -10,6 +10,7 @@ use mathlib.Core.List.{head-eq-of-cons-eq, tail-eq-of-cons-eq}
 use mathlib.Core.Path.{_≡_, refl, sym, ap, ap₂, _∙_}
 use lib.ListN.{length, getD, take, drop}
 use lib.Seq.{length-take-le}
+use Rattle.text.specs.Bytes.{bytes}
 use Rattle.letters.specs.Letter.{signalOn, bit, letters, letterValid}
 use Rattle.letters.specs.Lists.{every}
 use Rattle.letters.proofs.Bits.{bit-injective}
@@ -28,8 +29,8 @@ use Rattle.verdict.specs.declared.Found.the-variants.{Refused, Sound, Trapped}
 use Rattle.verdict.specs.declared.Summary.{Summary}
 use Rattle.verdict.specs.declared.Trap.{Trap}
 use Rattle.verdict.specs.Found.{Verdict, valuesOf}
-use Rattle.report.specs.Report.{refusedWord, lineWord, rulesWord, countWord, soundLine}
-use Rattle.report.specs.Report.{tickWord, lostWord, refusedLine, sizeLines, signalValues}
+use Rattle.report.specs.Report.{soundLine, lostLine}
+use Rattle.report.specs.Report.{refusedLine, sizeLines, signalValues}
 use Rattle.report.specs.Report.{trappedLine, tickLine, tickLines, trapLines}
 use Rattle.report.specs.Report.{reportLines, reportBytes}
 use Rattle.report.specs.further.Trace.{TraceInBuffer}
@@ -41,14 +42,14 @@ numbered-free word n h = count-append LF word (decimal n) ∙ rw (h, decimal-fre
 refused-free : (m n : ℕ) → count LF (refusedLine m n) ≡ 0
 unfolding count
 refused-free m n =
-    numbered-free (refusedWord ++ decimal m ++ lineWord) n
-    (count-append LF (refusedWord ++ decimal m) lineWord ∙ rw (numbered-free refusedWord m refl))
+    numbered-free (bytes "refused " ++ decimal m ++ (bytes " line ")) n
+    (count-append LF (bytes "refused " ++ decimal m) (bytes " line ") ∙ rw (numbered-free (bytes "refused ") m refl))
 
 sizes-free : (rows n : ℕ) (more : List (List ℕ)) → Free LF more
     → Free LF (sizeLines rows n ++ more)
 unfolding count
 sizes-free rows n more f =
-    and (numbered-free rulesWord rows refl) (and (numbered-free countWord n refl) f)
+    and (numbered-free (bytes "rules ") rows refl) (and (numbered-free (bytes "configurations ") n refl) f)
 
 values-free : (n k letter : ℕ) → count LF (signalValues n k letter) ≡ 0
 unfolding signalValues count
@@ -60,8 +61,8 @@ module _ (signals : ℕ) where
   tick-free : (tick letter : ℕ) → count LF (tickLine signals tick letter) ≡ 0
   unfolding count
   tick-free tick letter =
-      count-append LF (tickWord ++ decimal tick) (32 ∷ signalValues signals 0 letter)
-      ∙ rw (numbered-free tickWord tick refl, values-free signals 0 letter)
+      count-append LF (bytes "tick " ++ decimal tick) (32 ∷ signalValues signals 0 letter)
+      ∙ rw (numbered-free (bytes "tick ") tick refl, values-free signals 0 letter)
 
   ticks-free : (tick : ℕ) (w : List ℕ) (more : List (List ℕ)) → Free LF more
       → Free LF (tickLines signals tick w ++ more)
@@ -77,10 +78,10 @@ module _ (signals : ℕ) where
   report-free rows buffer (Sound summary) =
       and refl (sizes-free rows (summary .count) (soundLine ∷ []) (and refl none))
   report-free rows buffer (Trapped summary trap) =
-      let lost = lostWord ++ decimal (trap .lost) in
+      let lost = (bytes "lost ") ++ decimal (trap .lost) in
       and refl (sizes-free rows (summary .count) (trappedLine ∷ trapLines signals buffer trap)
       (and refl (ticks-free 1 (take (trap .length) buffer) (lost ∷ [])
-      (and (numbered-free lostWord (trap .lost) refl) none))))
+      (and (numbered-free (bytes "lost ") (trap .lost) refl) none))))
 
 -- Byte k of line i.
 abbrev byteAt : ℕ → ℕ → List (List ℕ) → ℕ
@@ -94,7 +95,7 @@ numbered-injective word m n e =
 refused-injective : (r s : Refusal)
     → refusedLine (r .number) (r .line) ≡ refusedLine (s .number) (s .line) → r ≡ s
 refused-injective r s e =
-    let rest = drop 1 lineWord in
+    let rest = drop 1 (bytes " line ") in
     let parts = append-injective 32 (decimal (r .number)) (rest ++ decimal (r .line))
     (decimal (s .number)) (rest ++ decimal (s .line)) (decimal-free 32 refl (r .number))
     (decimal-free 32 refl (s .number)) (simp append-assoc at (ap (drop 8) e)) in
@@ -106,8 +107,8 @@ sizes-injective : (rows rows′ m n : ℕ) (xs ys : List (List ℕ))
     → sizeLines rows m ++ xs ≡ sizeLines rows′ n ++ ys → (rows ≡ rows′) × (m ≡ n) × (xs ≡ ys)
 sizes-injective rows rows′ m n xs ys e =
     let others = tail-eq-of-cons-eq e in (
-      numbered-injective rulesWord rows rows′ (head-eq-of-cons-eq e),
-      numbered-injective countWord m n (head-eq-of-cons-eq others),
+      numbered-injective (bytes "rules ") rows rows′ (head-eq-of-cons-eq e),
+      numbered-injective (bytes "configurations ") m n (head-eq-of-cons-eq others),
       tail-eq-of-cons-eq others,
     )
 
@@ -138,18 +139,18 @@ module _ (signals : ℕ) where
   tick-injective : (tick x y : ℕ) → letterValid signals x ≡ true → letterValid signals y ≡ true
       → tickLine signals tick x ≡ tickLine signals tick y → x ≡ y
   tick-injective tick x y f g e =
-      let same = tail-eq-of-cons-eq (append-cancel-left (tickWord ++ decimal tick)
+      let same = tail-eq-of-cons-eq (append-cancel-left (bytes "tick " ++ decimal tick)
       (32 ∷ signalValues signals 0 x) (32 ∷ signalValues signals 0 y) e) in
       set-ext signals x y (ltb-true x (letters signals) f) (ltb-true y (letters signals) g)
       (λ l h. values-injective signals 0 x y same l (omega arith) (omega arith))
 
   trace-injective : (m n tick : ℕ) (v w : List ℕ) → every (letterValid signals) v ≡ true
       → every (letterValid signals) w ≡ true
-      → tickLines signals tick v ++ (lostWord ++ decimal m) ∷ []
-      ≡ tickLines signals tick w ++ (lostWord ++ decimal n) ∷ [] → (v ≡ w) × (m ≡ n)
+      → tickLines signals tick v ++ lostLine m ∷ []
+      ≡ tickLines signals tick w ++ lostLine n ∷ [] → (v ≡ w) × (m ≡ n)
   unfolding tickLines every
   trace-injective m n tick [] [] f g e =
-      (refl, numbered-injective lostWord m n (head-eq-of-cons-eq e))
+      (refl, numbered-injective (bytes "lost ") m n (head-eq-of-cons-eq e))
   trace-injective m n tick [] (y ∷ w) f g e = absurd (omega (arith, ap (byteAt 0 0) e))
   trace-injective m n tick (x ∷ v) [] f g e = absurd (omega (arith, ap (byteAt 0 0) e))
   trace-injective m n tick (x ∷ v) (y ∷ w) f g e =

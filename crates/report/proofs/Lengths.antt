@@ -4,6 +4,7 @@ use native.Mathlib.Omega.{arith}
 use mathlib.Core.List.{List, [], _∷_, _++_}
 use mathlib.Core.Path.{_≡_, refl, ap}
 use lib.ListN.{length, take, length-append, length-take}
+use Rattle.text.specs.Bytes.{bytes}
 use Rattle.text.specs.Bounds.{decimal}
 use Rattle.text.specs.Lines.{LF, ended}
 use Rattle.text.proofs.Decimals.{decimal-length}
@@ -13,10 +14,10 @@ use Rattle.verdict.specs.declared.Found.{Found}
 use Rattle.verdict.specs.declared.Found.the-variants.{Refused, Sound, Trapped}
 use Rattle.verdict.specs.declared.Trap.{Trap}
 use Rattle.verdict.specs.Found.{Values, valuesOf}
-use Rattle.report.specs.Report.{heading, refusedWord, lineWord, refusedLine, rulesWord}
-use Rattle.report.specs.Report.{countWord, sizeLines, soundLine, trappedLine, lostWord}
+use Rattle.report.specs.Report.{heading, refusedLine}
+use Rattle.report.specs.Report.{sizeLines, soundLine, trappedLine}
 use Rattle.report.specs.Report.{signalValues, tickLine, tickLines, trapLines, reportLines}
-use Rattle.report.specs.Report.{reportBytes}
+use Rattle.report.specs.Report.{lostLine, reportBytes}
 
 -- A word, a number below 10^(k+1), and the line's end.
 pub numbered-length : (k : ℕ) (word : List ℕ) (n : ℕ) → n < 10 ^ suc k
@@ -78,13 +79,13 @@ pub record FewDigits (rows ticks : ℕ) (values : Values) : Type 0 where
 
 size-length : (rows n : ℕ) → rows < 1000 → n < 100000 → length (ended (sizeLines rows n)) ≤ 31
 size-length rows n few count =
-    let first = last-length 2 rulesWord rows few in
-    let second = last-length 4 countWord n count in
+    let first = last-length 2 (bytes "rules ") rows few in
+    let second = last-length 4 (bytes "configurations ") n count in
     omega (
       arith,
       first,
       second,
-      both-length ((rulesWord ++ decimal rows) ∷ []) ((countWord ++ decimal n) ∷ []),
+      both-length ((bytes "rules " ++ decimal rows) ∷ []) ((bytes "configurations " ++ decimal n) ∷ []),
     )
 
 module _ (rows signals ticks : ℕ) (buffer : List ℕ) (low : signals ≤ mostSignals)
@@ -95,8 +96,8 @@ module _ (rows signals ticks : ℕ) (buffer : List ℕ) (low : signals ≤ mostS
       let w = take (trap .length) buffer in
       let most : length w ≤ ticks = rw length-take (omega arith) in
       let lines = ticks-length signals 3 17 (omega arith) 1 w (omega arith) in
-      let lost = last-length 4 lostWord (trap .lost) few in
-      let both = both-length (tickLines signals 1 w) ((lostWord ++ decimal (trap .lost)) ∷ []) in
+      let lost = last-length 4 (bytes "lost ") (trap .lost) few in
+      let both = both-length (tickLines signals 1 w) (lostLine (trap .lost) ∷ []) in
       omega (arith, lines, lost, both)
 
   pub report-short : (found : Found) → FewDigits rows ticks (valuesOf found)
@@ -104,15 +105,15 @@ module _ (rows signals ticks : ℕ) (buffer : List ℕ) (low : signals ≤ mostS
   unfolding reportLines
   report-short (Refused r) few =
       let number = decimal-length 2 (r .number) (few .number) in
-      let line = last-length 2 (refusedWord ++ decimal (r .number) ++ lineWord) (r .line)
+      let line = last-length 2 (bytes "refused " ++ decimal (r .number) ++ (bytes " line ")) (r .line)
       (few .line) in
-      let words = length-append (refusedWord ++ decimal (r .number)) lineWord in
+      let words = length-append (bytes "refused " ++ decimal (r .number)) (bytes " line ") in
       omega (
         arith,
         line,
         number,
         words,
-        length-append refusedWord (decimal (r .number)),
+        length-append (bytes "refused ") (decimal (r .number)),
         more-length heading (refusedLine (r .number) (r .line) ∷ []),
       )
   report-short (Sound summary) few =

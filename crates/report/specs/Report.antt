@@ -1,4 +1,5 @@
 -- "A whole report": its lines, for each thing that can be found of a table.
+use Prim.Native.Char.{code}
 use Prim.Native.Nat.{ℕ, zero, suc, _+_, _≤_}
 use mathlib.Core.Bool.{true}
 use mathlib.Core.List.{List, [], _∷_, _++_}
@@ -19,24 +20,12 @@ abbrev pub heading : List ℕ
 heading = bytes "PNP report"
 
 -- "`refused 13 line 3`."
-abbrev pub refusedWord : List ℕ
-refusedWord = bytes "refused "
-
-abbrev pub lineWord : List ℕ
-lineWord = bytes " line "
-
 abbrev pub refusedLine : ℕ → ℕ → List ℕ
-refusedLine number line = refusedWord ++ decimal number ++ lineWord ++ decimal line
+refusedLine number line = bytes "refused " ++ decimal number ++ bytes " line " ++ decimal line
 
 -- "The `rules` line has the number of rows, the `configurations` line the count."
-abbrev pub rulesWord : List ℕ
-rulesWord = bytes "rules "
-
-abbrev pub countWord : List ℕ
-countWord = bytes "configurations "
-
 abbrev pub sizeLines : ℕ → ℕ → List (List ℕ)
-sizeLines rows count = (rulesWord ++ decimal rows) ∷ (countWord ++ decimal count) ∷ []
+sizeLines rows count = (bytes "rules " ++ decimal rows) ∷ (bytes "configurations " ++ decimal count) ∷ []
 
 -- "A sound table ends after `verdict sound`."
 abbrev pub soundLine : List ℕ
@@ -45,32 +34,29 @@ soundLine = bytes "verdict sound"
 abbrev pub trappedLine : List ℕ
 trappedLine = bytes "verdict trapped"
 
--- "A tick line has the tick's number from 1 and each signal's value in file order." "Lost is the
--- lost number."
-abbrev pub tickWord : List ℕ
-tickWord = bytes "tick "
-
-abbrev pub lostWord : List ℕ
-lostWord = bytes "lost "
-
 -- The values of n signals from signal k on, `0` or `1` each.
 unfoldable pub signalValues : ℕ → ℕ → ℕ → List ℕ
 signalValues zero k letter = []
-signalValues (suc n) k letter = (48 + bit (signalOn letter k)) ∷ signalValues n (suc k) letter
+signalValues (suc n) k letter = (code "0" + bit (signalOn letter k)) ∷ signalValues n (suc k) letter
 
+-- "A tick line has the tick's number from 1 and each signal's value in file order."
 abbrev pub tickLine : ℕ → ℕ → ℕ → List ℕ
 tickLine signals tick letter =
-    tickWord ++ decimal tick ++ (bytes " " ++ signalValues signals 0 letter)
+    bytes "tick " ++ decimal tick ++ (bytes " " ++ signalValues signals 0 letter)
 
 unfoldable pub tickLines : ℕ → ℕ → List ℕ → List (List ℕ)
 tickLines signals tick [] = []
 tickLines signals tick (letter ∷ more) =
     tickLine signals tick letter ∷ tickLines signals (suc tick) more
 
+-- "Lost is the lost number."
+abbrev pub lostLine : ℕ → List ℕ
+lostLine k = bytes "lost " ++ decimal k
+
 -- A trapped table's trace, which is at the front of the trace buffer, and its lost number.
 abbrev pub trapLines : ℕ → List ℕ → Trap → List (List ℕ)
 trapLines signals buffer trap =
-    tickLines signals 1 (take (trap .length) buffer) ++ (lostWord ++ decimal (trap .lost)) ∷ []
+    tickLines signals 1 (take (trap .length) buffer) ++ lostLine (trap .lost) ∷ []
 
 -- What is found of a table with so many rows and signals. "A refused one prints the first line and
 -- `refused 13 line 3`, with its own number and line."

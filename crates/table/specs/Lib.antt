@@ -4,3 +4,4 @@ pub mod Row
 pub mod Name
 pub mod Valid
 pub mod Refusal
+pub mod further

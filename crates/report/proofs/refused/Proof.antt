@@ -4,10 +4,10 @@ use borrow.Author.Needs.{needs}
 use native.Mathlib.Omega.{arith}
 use mathlib.Core.List.{[], _∷_, _++_, append-assoc}
 use lib.ListN.{length}
+use Rattle.text.specs.Bytes.{bytes}
 use Rattle.text.specs.Bounds.{decimal}
 use Rattle.text.specs.Lines.{LF}
 use Rattle.text.proofs.Decimals.{decimal-length}
-use Rattle.report.specs.Report.{refusedWord, lineWord}
 use Rattle.report.proofs.Puts.{puts-append}
 use Rattle.report.proofs.Lengths.{numbered-length}
 use Rattle.report.proofs.refused.Statement.{statement}
@@ -18,8 +18,8 @@ module _ (c : tie.Start) where
   number-short : length (decimal (c .args .refusal .number)) ≤ 3
   number-short = decimal-length 2 (c .args .refusal .number) (search needs)
 
-  line-short : length (lineWord ++ decimal (c .args .refusal .line) ++ LF ∷ []) ≤ 10
-  line-short = numbered-length 2 lineWord (c .args .refusal .line) (search needs)
+  line-short : length (bytes " line " ++ decimal (c .args .refusal .line) ++ LF ∷ []) ≤ 10
+  line-short = numbered-length 2 (bytes " line ") (c .args .refusal .line) (search needs)
 
 abbrev start : tie.After-word → tie.Start
 start c = c .before .before .before .before
@@ -58,11 +58,11 @@ returns c =
     let number = counted (end .before) in
     let word = worded number in
     let refusal = start word .args .refusal in
-    let front = refusedWord ++ decimal (refusal .number) in
+    let front = (bytes "refused ") ++ decimal (refusal .number) in
     rw (
-      append-assoc (front ++ lineWord) (decimal (refusal .line)) _,
-      append-assoc front lineWord _,
-      ← append-assoc lineWord (decimal (refusal .line)) _,
+      append-assoc (front ++ (bytes " line ")) (decimal (refusal .line)) _,
+      append-assoc front (bytes " line ") _,
+      ← append-assoc (bytes " line ") (decimal (refusal .line)) _,
     )
     (puts-append (puts-append (word .word .ensures) (number .decimal .ensures))
     (end .numbered .ensures))

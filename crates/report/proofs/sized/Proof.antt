@@ -4,9 +4,9 @@ use borrow.Author.Needs.{needs}
 use native.Mathlib.Omega.{arith}
 use mathlib.Core.List.{[], _∷_, _++_}
 use lib.ListN.{length}
+use Rattle.text.specs.Bytes.{bytes}
 use Rattle.text.specs.Bounds.{decimal}
 use Rattle.text.specs.Lines.{LF}
-use Rattle.report.specs.Report.{rulesWord, countWord}
 use Rattle.report.proofs.Lines.{puts-line, puts-last}
 use Rattle.report.proofs.Lengths.{numbered-length}
 use Rattle.report.proofs.sized.Statement.{statement}
@@ -14,11 +14,11 @@ use Rattle.report.proofs.sized.Tie as tie
 
 -- How long the two lines can be.
 module _ (c : tie.Start) where
-  rules-short : length (rulesWord ++ decimal (c .args .rows) ++ LF ∷ []) ≤ 10
-  rules-short = numbered-length 2 rulesWord (c .args .rows) (search needs)
+  rules-short : length (bytes "rules " ++ decimal (c .args .rows) ++ LF ∷ []) ≤ 10
+  rules-short = numbered-length 2 (bytes "rules ") (c .args .rows) (search needs)
 
-  count-short : length (countWord ++ decimal (c .args .summary .count) ++ LF ∷ []) ≤ 21
-  count-short = numbered-length 4 countWord (c .args .summary .count) (search needs)
+  count-short : length (bytes "configurations " ++ decimal (c .args .summary .count) ++ LF ∷ []) ≤ 21
+  count-short = numbered-length 4 (bytes "configurations ") (c .args .summary .count) (search needs)
 
 abbrev start : tie.After-numbered → tie.Start
 start c = c .before .before .before .before
@@ -49,8 +49,8 @@ returns c =
     let at = start first in
     let rules = first .numbered .ensures in
     let count = second .numbered2 .ensures in (
-      puts-line (rulesWord ++ decimal (at .args .rows)) _ rules
-          (puts-last (countWord ++ decimal (at .args .summary .count)) count),
+      puts-line (bytes "rules " ++ decimal (at .args .rows)) _ rules
+          (puts-last (bytes "configurations " ++ decimal (at .args .summary .count)) count),
       omega (arith, rules-short at, count-short at, rules .next-is, count .next-is),
     )
 

@@ -4,9 +4,10 @@ use borrow.Author.Needs.{needs}
 use native.Mathlib.Omega.{arith}
 use mathlib.Core.List.{List, [], _∷_, _++_}
 use lib.ListN.{length, take, length-take}
+use Rattle.text.specs.Bytes.{bytes}
 use Rattle.text.specs.Bounds.{decimal}
 use Rattle.text.specs.Lines.{LF, ended}
-use Rattle.report.specs.Report.{lostWord, tickLines}
+use Rattle.report.specs.Report.{tickLines, lostLine}
 use Rattle.report.proofs.Lines.{puts-lines, puts-last}
 use Rattle.report.proofs.Lengths.{numbered-length, ticks-length}
 use Rattle.report.proofs.trapped.Statement.{statement}
@@ -27,8 +28,8 @@ module _ (c : tie.Start) where
   lines-few = ticks-few (c .args .signals) (c .args .trap .length) (c .args .trace .now)
       (search needs) (search needs)
 
-  lost-short : length (lostWord ++ decimal (c .args .trap .lost) ++ LF ∷ []) ≤ 11
-  lost-short = numbered-length 4 lostWord (c .args .trap .lost) (search needs)
+  lost-short : length (bytes "lost " ++ decimal (c .args .trap .lost) ++ LF ∷ []) ≤ 11
+  lost-short = numbered-length 4 (bytes "lost ") (c .args .trap .lost) (search needs)
 
 abbrev start : tie.After-tick-lines → tie.Start
 start c = c .before .before .before .before
@@ -58,7 +59,7 @@ returns c =
     let args = start ticks .args in
     puts-lines (tickLines (args .signals) 1 (take (args .trap .length) (args .trace .now))) _
     (ticks .tick-lines .ensures)
-    (puts-last (lostWord ++ decimal (args .trap .lost)) (lost .numbered .ensures))
+    (puts-last (lostLine (args .trap .lost)) (lost .numbered .ensures))
 
 pub trapped-spec : {M : Type 1} → statement M
 trapped-spec =
