@@ -234,7 +234,7 @@ fn whole(end: usize, part: Read) -> Read
     }
 }
 
-fn condition(s: &[u8], names: [Name; MOST_SIGNALS], signals: u8) -> Read
+fn read_condition(s: &[u8], names: [Name; MOST_SIGNALS], signals: u8) -> Read
     ensures { λ r. ⌜ r ≡ conditionOf (take signals names) (width signals) (now (s .entry)) ⌝ }
 {
     whole(s.len(), choice(s, 0, names, signals))
@@ -289,6 +289,6 @@ pub fn judge_condition(s: &[u8], names: [Name; MOST_SIGNALS], signals: u8) -> Ju
     if too_deep(s) {
         Judged::Refused(11)
     } else {
-        verdict(condition(s, names, signals))
+        verdict(read_condition(s, names, signals))
     }
 }

@@ -14,7 +14,7 @@ use Rattle.traces.specs.Order.{Earlier, NotAfter}
 use Rattle.traces.specs.Doomed.{Doomed}
 use Rattle.traces.specs.inner.Verdicts.{Trapped}
 use Rattle.traces.proofs.Numbers.{strong-induction}
-use Rattle.traces.proofs.Order.{earlier-irrefl, earlier-trans, notAfter-antisym}
+use Rattle.traces.proofs.Order.{earlier-irrefl, earlier-trans, not-after-antisym}
 use Rattle.traces.proofs.Doomed.{lost-doomed, lost-unique}
 use Rattle.search.specs.Lent.{Lent, systemOf}
 use Rattle.demands.specs.Searching.{LostOrZero, ScratchHeld}
@@ -59,7 +59,7 @@ module _ (table : Table) (n : ℕ) (lent : Lent) (held : ScratchHeld table n len
           trap-doomed = lost-doomed X _ k (trap .lost)
 
           is : held .trace (r .0) ≡ w
-          is = notAfter-antisym
+          is = not-after-antisym
               (held .entry (r .0) (r .1) .earliest w (trap .fine) (sym (r .2)))
               (trap .earliest (held .trace (r .0)) (held .entry (r .0) (r .1) .fine)
               (rw (held .entry (r .0) (r .1) .leads, r .2) trap-doomed))

@@ -12,7 +12,7 @@ use Rattle.letters.specs.Lists.{ZeroFrom}
 use Rattle.table.specs.declared.Table.{Table}
 use Rattle.traces.specs.Order.{Earlier}
 use Rattle.traces.specs.Trace.{run, Reached}
-use Rattle.traces.proofs.Order.{earlier-irrefl, earlier-trans, notAfter-antisym}
+use Rattle.traces.proofs.Order.{earlier-irrefl, earlier-trans, not-after-antisym}
 use Rattle.traces.proofs.Doomed.{lost-unique, lost-doomed}
 use Rattle.step.specs.declared.Phase.{Phase}
 use Rattle.successors.specs.State.{packed}
@@ -48,7 +48,7 @@ module _ (table : Table) (n : ℕ) where
   same-trace x y e f p q is =
       let a = x .entry e p in
       let b = y .entry f q in
-      notAfter-antisym (a .earliest (y .trace f) (b .fine) (b .leads ∙ sym is))
+      not-after-antisym (a .earliest (y .trace f) (b .fine) (b .leads ∙ sym is))
       (b .earliest (x .trace e) (a .fine) (a .leads ∙ is))
 
   -- The same state stands at each place: below it by assumption; and a state that stood later on

@@ -14,7 +14,7 @@ returns-2 c =
     rw (
       ← c .before .before .before .too-deep .ensures,
       c .before .before .if1 .left,
-      ← c .before .condition .ensures,
+      ← c .before .read-condition .ensures,
     )
     (c .verdict .ensures)
 

@@ -1,14 +1,14 @@
--- `conditions::condition` meets its contract. Assumes nothing.
+-- `conditions::read_condition` meets its contract. Assumes nothing.
 use borrow.Author.Needs.{needs}
 use mathlib.Core.Path.{_∙_}
 use Rattle.conditions.proofs.Steps.{conditionOf-reads}
-use Rattle.conditions.proofs.condition.Statement.{statement}
-use Rattle.conditions.proofs.condition.Tie as tie
+use Rattle.conditions.proofs.read_condition.Statement.{statement}
+use Rattle.conditions.proofs.read_condition.Tie as tie
 
 returns : tie.Need-returns
 returns c = c .whole .ensures ∙ conditionOf-reads (c .before .choice .ensures)
 
-pub condition-spec : {M : Type 1} → statement M
-condition-spec =
+pub read-condition-spec : {M : Type 1} → statement M
+read-condition-spec =
     tie.close (tie.spec
     (λ c κs. search needs) (λ c κs. search needs) returns)
