@@ -43,13 +43,15 @@ refused-free : (m n : ℕ) → count LF (refusedLine m n) ≡ 0
 unfolding count
 refused-free m n =
     numbered-free (bytes "refused " ++ decimal m ++ (bytes " line ")) n
-    (count-append LF (bytes "refused " ++ decimal m) (bytes " line ") ∙ rw (numbered-free (bytes "refused ") m refl))
+    (count-append LF (bytes "refused " ++ decimal m) (bytes " line ")
+    ∙ rw (numbered-free (bytes "refused ") m refl))
 
 sizes-free : (rows n : ℕ) (more : List (List ℕ)) → Free LF more
     → Free LF (sizeLines rows n ++ more)
 unfolding count
 sizes-free rows n more f =
-    and (numbered-free (bytes "rules ") rows refl) (and (numbered-free (bytes "configurations ") n refl) f)
+    and (numbered-free (bytes "rules ") rows refl)
+    (and (numbered-free (bytes "configurations ") n refl) f)
 
 values-free : (n k letter : ℕ) → count LF (signalValues n k letter) ≡ 0
 unfolding signalValues count

@@ -85,7 +85,8 @@ size-length rows n few count =
       arith,
       first,
       second,
-      both-length ((bytes "rules " ++ decimal rows) ∷ []) ((bytes "configurations " ++ decimal n) ∷ []),
+      both-length ((bytes "rules " ++ decimal rows) ∷ [])
+          ((bytes "configurations " ++ decimal n) ∷ []),
     )
 
 module _ (rows signals ticks : ℕ) (buffer : List ℕ) (low : signals ≤ mostSignals)
@@ -105,7 +106,8 @@ module _ (rows signals ticks : ℕ) (buffer : List ℕ) (low : signals ≤ mostS
   unfolding reportLines
   report-short (Refused r) few =
       let number = decimal-length 2 (r .number) (few .number) in
-      let line = last-length 2 (bytes "refused " ++ decimal (r .number) ++ (bytes " line ")) (r .line)
+      let line = last-length 2 (bytes "refused " ++ decimal (r .number) ++ bytes " line ")
+      (r .line)
       (few .line) in
       let words = length-append (bytes "refused " ++ decimal (r .number)) (bytes " line ") in
       omega (

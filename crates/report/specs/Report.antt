@@ -25,7 +25,8 @@ refusedLine number line = bytes "refused " ++ decimal number ++ bytes " line " +
 
 -- "The `rules` line has the number of rows, the `configurations` line the count."
 abbrev pub sizeLines : ℕ → ℕ → List (List ℕ)
-sizeLines rows count = (bytes "rules " ++ decimal rows) ∷ (bytes "configurations " ++ decimal count) ∷ []
+sizeLines rows count =
+    (bytes "rules " ++ decimal rows) ∷ (bytes "configurations " ++ decimal count) ∷ []
 
 -- "A sound table ends after `verdict sound`."
 abbrev pub soundLine : List ℕ

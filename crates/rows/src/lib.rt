@@ -17,7 +17,8 @@ ghost use Rattle.text.specs.Lines.{comma};
 ghost use Rattle.text.specs.Lines.{count};
 ghost use Rattle.text.specs.inner.Cut.{front};
 ghost use Rattle.rows.specs.inner.Row.{rowFrom, boundAt, boundField, conditionField, fieldOf};
-ghost use Rattle.rows.specs.inner.Row.{faultOf, lineFields, boundsFrom, judgedRow, rowRefused};
+ghost use Rattle.rows.specs.inner.Row.{faultOf, lineFields, boundsFrom, judgedRow};
+ghost use Rattle.rows.specs.inner.Row.{rowRefused};
 ghost use Rattle.rows.specs.inner.Row.{rowAnswer};
 ghost use Rattle.rows.specs.inner.Gathering.{valuesAnswer};
 

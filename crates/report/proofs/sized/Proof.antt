@@ -17,7 +17,8 @@ module _ (c : tie.Start) where
   rules-short : length (bytes "rules " ++ decimal (c .args .rows) ++ LF ∷ []) ≤ 10
   rules-short = numbered-length 2 (bytes "rules ") (c .args .rows) (search needs)
 
-  count-short : length (bytes "configurations " ++ decimal (c .args .summary .count) ++ LF ∷ []) ≤ 21
+  count-short : length (bytes "configurations " ++ decimal (c .args .summary .count) ++ LF ∷ [])
+      ≤ 21
   count-short = numbered-length 4 (bytes "configurations ") (c .args .summary .count) (search needs)
 
 abbrev start : tie.After-numbered → tie.Start
