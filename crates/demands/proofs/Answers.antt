@@ -34,7 +34,8 @@ module _ (table : Table) where
 
 module _ (table : Table) (lent : Lent) where
   -- Each call has one of the five answers.
-  judged-answered : tableValid table ≡ true → (r : Judgement) → RightJudgement (systemOf table) (roomOf lent) r
+  judged-answered : tableValid table ≡ true → (r : Judgement)
+      → RightJudgement (systemOf table) (roomOf lent) r
       → ComputedAnswer table lent (judged r lent (withEntries table lent))
   unfolding judged
   judged-answered p r (tooMany-right m) = is20 p m
@@ -66,7 +67,8 @@ module _ (table : Table) (lent : Lent) where
       go false p = is17 p
 
   -- And no other: what one of them says fixes all of the answer.
-  pub right-judged : tableValid table ≡ true → (r : Judgement) → RightJudgement (systemOf table) (roomOf lent) r
+  pub right-judged : tableValid table ≡ true → (r : Judgement)
+      → RightJudgement (systemOf table) (roomOf lent) r
       → searchAnswer table lent ≡ judged r lent (withEntries table lent)
   unfolding searchAnswer
   right-judged p r t = rw (

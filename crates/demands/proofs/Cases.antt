@@ -5,6 +5,7 @@ use mathlib.Core.List.{[], _∷_}
 use mathlib.Core.Path.{_≡_}
 use lib.ListN.{length, getD}
 use Rattle.letters.specs.Lists.{every}
+use Rattle.text.specs.Lines.{All}
 use Rattle.reader.specs.Reading.{emptyTable}
 use Rattle.verdict.specs.Found.{refusedFound, soundFound}
 use Rattle.search.specs.Lent.{Lent, roomOf, cleared}
@@ -12,7 +13,7 @@ use Rattle.search.specs.inner.Computed.{searchAnswer}
 use Rattle.checker.specs.inner.Computed.{checkAnswer}
 use Rattle.demands.specs.examples.Cases.{P as rowP, Q as rowQ, S as rowS, report, delayed}
 use Rattle.demands.specs.examples.Cases.{isRight}
-use Rattle.demands.specs.examples.Cases.{starred, CaseMeans}
+use Rattle.demands.specs.examples.Cases.{starred, CaseMeans, EventCaseMeans, eventCases}
 use Rattle.demands.specs.examples.Texts.{textP, textNotC, textQ, textS, textDelayed}
 use Rattle.demands.specs.examples.Texts.{fileOf, ReadAs}
 use Rattle.demands.specs.examples.Texts.{wholeOutput}
@@ -28,6 +29,10 @@ starred-right = Starred.starred-right
 
 pub starred-means : (i : ℕ) → i < length starred → CaseMeans (getD starred i (after rowP [] 0))
 starred-means = Starred.starred-means
+
+-- The cases of document 02, ask 1.
+pub events-worked : All EventCaseMeans eventCases
+events-worked = Starred.events-worked
 
 -- Their rows are those that the reader makes of the texts; and "A whole report" is, to the byte,
 -- what is reported of its input, in all lent memory that holds two states and a letter.

@@ -1,7 +1,8 @@
 -- The promises, in the words of the demands. This file and the specs are all that has to be
 -- believed. What each function answers, refused or not, is its contract in src/: one equation with
 -- a definition of the specs; here stands what follows of those definitions. More is promised, by
--- subject, in `Reading`, `Watching`, `Searching`, `Reporting` and `Cases`. Assumes nothing.
+-- subject, in `Reading`, `Watching`, `Happening`, `Searching`, `Reporting` and `Cases`. Assumes
+-- nothing.
 use Prim.Native.Nat.{ℕ, suc, _<_, _≤_}
 use mathlib.Core.Bool.{true}
 use mathlib.Core.List.{List}
@@ -9,7 +10,7 @@ use mathlib.Core.Logic.{_⊎_, _↔_}
 use mathlib.Core.Path.{_≡_, ap}
 use lib.ListN.{length, getD, take}
 use Rattle.letters.specs.Letter.{letters}
-use Rattle.table.specs.Limits.{mostBytes}
+use Rattle.table.specs.Limits.{mostBytes, mostRows}
 use Rattle.table.specs.Row.{noRow}
 use Rattle.table.specs.Valid.{tableValid, rowsValid, rowsOf}
 use Rattle.table.specs.declared.Row.{Row}
@@ -18,8 +19,12 @@ use Rattle.traces.specs.Trace.{AllBelow, run}
 use Rattle.traces.specs.Count.{ReachedMany}
 use Rattle.step.specs.declared.Phase.the-variants.{Waiting}
 use Rattle.step.specs.Tick.{rowSystem}
+use Rattle.step.specs.Events.{noEvents, rowEvents, Event, timesOf}
+use Rattle.step.specs.Valid.{phasesValid}
 use Rattle.watcher.specs.declared.Watch.{Watch}
-use Rattle.watcher.specs.Watch.{phasesOf, startWatch}
+use Rattle.watcher.specs.Watch.{phasesOf, startWatch, countOf, noCounts}
+use Rattle.watcher.specs.Answer.{tickAnswer}
+use Rattle.watcher.specs.inner.Tables.{tablePlay}
 use Rattle.reader.specs.Reading.{accepted}
 use Rattle.reader.specs.Grammar.{IsFile}
 use Rattle.reader.specs.Right.{RightReading}
@@ -30,7 +35,7 @@ use Rattle.reader.proofs.Only as ReadingOnly
 use Rattle.verdict.specs.Found.{Verdict, valuesOf, soundFound, trappedFound}
 use Rattle.search.specs.Lent.{Lent, Searched, roomOf, systemOf, traced}
 use Rattle.search.specs.inner.Computed.{searchAnswer}
-use Rattle.demands.specs.Watching.{recordAfter, CallValid}
+use Rattle.demands.specs.Watching.{recordAfter, eventsOver, CallValid}
 use Rattle.demands.specs.Searching.{searchValues, Dead, EarliestDead, CanGoOn, Fit}
 use Rattle.demands.specs.Searching.{Entered, RightAnswer, SameLengths, SameScratch}
 use Rattle.demands.specs.Reporting.{RightReport}
@@ -38,6 +43,7 @@ use Rattle.checker.specs.FileReport.{FileReport}
 use Rattle.checker.specs.inner.Computed.{checkAnswer}
 use Rattle.demands.proofs.Reading as Reading
 use Rattle.demands.proofs.Watching as Watching
+use Rattle.demands.proofs.Happening as Happening
 use Rattle.demands.proofs.Searching as Searching
 use Rattle.demands.proofs.Reported as Reported
 use Rattle.demands.proofs.WatchLaws as WatchLaws
@@ -74,6 +80,23 @@ pub from-start : (s : ℕ) (rows : List Row) (w : List ℕ) → rowsValid s rows
     → getD (phasesOf (recordAfter s rows startWatch w)) i Waiting
     ≡ run (rowSystem s (getD rows i noRow)) Waiting w
 from-start = Watching.from-start
+
+-- Document 02, ask 1: "Each tick shall also give, for each row, which of these happened": what a
+-- call gives for a row, after every trace, is what the step rules say at the phase of that row; and
+-- a trace that is played gives how often each event happened at its calls.
+pub events-follow : (s : ℕ) (rows : List Row) (watch : Watch) (w : List ℕ) (l : ℕ)
+    → CallValid s rows watch → AllBelow (letters s) w → l < letters s → (i : ℕ) → i < length rows
+    → getD (tickAnswer s rows (recordAfter s rows watch w) l .reply .events) i noEvents
+    ≡ rowEvents (getD rows i noRow) l
+    (run (rowSystem s (getD rows i noRow)) (getD (phasesOf watch) i Waiting) w)
+events-follow = Happening.events-follow
+
+pub counted : (table : Table) (watch : Watch) (w : List ℕ) → tableValid table ≡ true
+    → phasesValid (rowsOf table) (phasesOf watch) ≡ true → AllBelow (letters (table .signals)) w
+    → (i : ℕ) → i < mostRows → (event : Event)
+    → countOf (getD (tablePlay table watch w .counts) i noCounts) event
+    ≡ timesOf event i (eventsOver (table .signals) (rowsOf table) watch w)
+counted = Watching.counted
 
 -- Demand 1, for the search: any table value and any lent memory have one of the five answers of
 -- `RightAnswer`, and what it says is so; and no other answer says what is so.

@@ -1,11 +1,12 @@
 -- Read `Demands` and the specs: nothing else has to be believed. What is promised besides stands by
--- subject: `Reading`, `Watching`, `Searching`, `Reporting`, `Cases`. Below them are proofs:
--- `WatchLaws`; `VerdictMeaning`, `Answers`, `SearchLaws`, `Entries`, `EarliestTrap`, `SameInput`,
--- `StateNumbers`, `ScratchLaws` and `Described` of the search; `ReportLaws`; `Starred` and
--- `WholeReport` of the worked cases.
+-- subject: `Reading`, `Watching`, `Happening`, `Searching`, `Reporting`, `Cases`. Below them are
+-- proofs: `WatchLaws`, `WatchCalls`; `VerdictMeaning`, `Answers`, `SearchLaws`, `Entries`,
+-- `EarliestTrap`, `SameInput`, `StateNumbers`, `ScratchLaws` and `Described` of the search;
+-- `ReportLaws`; `Starred` and `WholeReport` of the worked cases.
 pub mod Demands
 pub mod Reading
 pub mod Watching
+pub mod Happening
 pub mod Searching
 pub mod Reporting
 pub mod Cases

@@ -26,7 +26,8 @@ use Rattle.checker.specs.inner.Computed.{checkAnswer}
 use Rattle.demands.specs.Reporting.{RightReport}
 use Rattle.demands.specs.further.Program.{ProgramPrints}
 use Rattle.demands.specs.Reporting.RightReport.{refused, searched}
-use Rattle.demands.specs.further.Program.ProgramPrints.{refused as refusal, many, sound, trapped}
+use Rattle.demands.specs.further.Program.ProgramPrints.{refused as refusal, many, sound}
+use Rattle.demands.specs.further.Program.ProgramPrints.{trapped}
 use Rattle.demands.specs.inner.Answers.{ComputedAnswer}
 use Rattle.demands.specs.inner.Answers.ComputedAnswer.{is17, is20, is21, isSound, isTrapped}
 use Rattle.demands.proofs.Answers.{one-of-five, answer-is}

@@ -10,6 +10,8 @@ use lib.ListN.{length, getD}
 use Rattle.letters.specs.Letter.{bitAt, setOf}
 use Rattle.letters.specs.Lists.{every, some, sameBytes}
 use Rattle.letters.proofs.Lists.{and-left, and-right, every-at, sameBytes-true}
+use Rattle.text.specs.Lines.{All}
+use Rattle.text.specs.Lines.All.{none, and}
 use Rattle.table.specs.Valid.{tableValid, rowsOf}
 use Rattle.table.specs.declared.Row.{Row}
 use Rattle.table.specs.declared.Table.{Table}
@@ -24,6 +26,7 @@ use Rattle.traces.specs.inner.Judgement.RightJudgement.{trapped-right}
 use Rattle.traces.proofs.Judgement.{judge-right}
 use Rattle.step.specs.Phase.{codeOf, isBroken}
 use Rattle.step.specs.Step.{actionCheck, delayCheck, triggerCheck, stepRow}
+use Rattle.step.specs.Events.{actionEvents, delayEvents, triggerEvents, rowEvents}
 use Rattle.step.specs.Tick.{tick, tableSystem}
 use Rattle.step.proofs.Systems.{table-lawful}
 use Rattle.scratch.specs.inner.Same.{kindOf, elapsed, samePhase, samePhases}
@@ -32,8 +35,7 @@ use Rattle.search.specs.Lent.{Lent, roomOf, systemOf, traced}
 use Rattle.search.specs.inner.Computed.{judged, searchAnswer}
 use Rattle.scratch.proofs.Same.{phases-decided}
 use Rattle.demands.specs.examples.Cases.{P, Case, CaseMeans, trappedWith, isRight, starred}
-use Rattle.demands.specs.examples.Cases.{report}
-use Rattle.demands.specs.examples.Cases.{delayed}
+use Rattle.demands.specs.examples.Cases.{report, delayed, EventCaseMeans, eventCases}
 use Rattle.demands.specs.examples.Cases.Case.{after, traps}
 use Rattle.demands.specs.inner.Answers.{withEntries}
 use Rattle.demands.specs.Searching.{Fit}
@@ -45,6 +47,15 @@ unfolding every isRight starred run codeOf stepRow triggerCheck delayCheck actio
     trappedWith judge verdictFrom lostWithin breaksIn passBelow traceOf back explore visit enter
     has samePhases samePhase kindOf elapsed tick some isBroken sameBytes
 starred-right = refl
+
+-- What happened in the cases of ask 1.
+pub events-worked : All EventCaseMeans eventCases
+unfolding eventCases run codeOf stepRow triggerCheck delayCheck actionCheck bitAt setOf rowEvents
+    triggerEvents delayEvents actionEvents
+events-worked =
+    and (refl, refl) (and (refl, refl) (and (refl, refl) (and (refl, refl) (and (refl, refl)
+    (and (refl, refl) (and (refl, refl) (and (refl, refl) (and (refl, refl) (and (refl, refl)
+    none)))))))))
 
 -- The test of an answer tells what it is.
 trapped-is : (w : List ℕ) (k n : ℕ) (r : Judgement) → trappedWith w k n r ≡ true → r ≡ trapped n w k
@@ -109,7 +120,8 @@ pub starred-means : (i : ℕ) → i < length starred → CaseMeans (getD starred
 starred-means i h = right-means _ (every-at isRight starred i (after P [] 0) starred-right h)
 
 -- "The report's table: trapped, trace 1, lost 1, two states."
-pub report-right : (room : ℕ) → 2 ≤ room → RightJudgement (tableSystem 2 report) room (trapped 2 (1 ∷ []) 1)
+pub report-right : (room : ℕ) → 2 ≤ room
+    → RightJudgement (tableSystem 2 report) room (trapped 2 (1 ∷ []) 1)
 unfolding starred
 report-right room fits =
     table-right report (1 ∷ []) 1 2 (every-at isRight starred 14 (after P [] 0) starred-right

@@ -25,11 +25,10 @@ use Rattle.step.specs.Valid.{phasesValid, isWaiting, phaseValid}
 use Rattle.step.proofs.States.{phases-back}
 use Rattle.step.proofs.Rows.{tick-valid}
 use Rattle.step.proofs.Systems.{table-lawful, run-at, run-valid}
-use Rattle.table.specs.declared.Outcome.the-variants.{Accepted as Taken}
 use Rattle.watcher.specs.declared.Ticked.{Ticked}
 use Rattle.watcher.specs.declared.Watch.{Watch}
 use Rattle.watcher.specs.Watch.{phasesOf, watchOf, startWatch}
-use Rattle.watcher.specs.Answer.{firstNumber, answered, tickAnswer}
+use Rattle.watcher.specs.Answer.{firstNumber, answered, refusedWith, movedOn, tickAnswer}
 use Rattle.table.specs.further.Numbers.{numberOf, lineOf}
 use Rattle.watcher.proofs.Records.{phases-watch}
 use Rattle.table.specs.Limits.{mostRows}
@@ -38,8 +37,7 @@ use Rattle.demands.specs.Watching.{recordAfter, CallValid}
 module _ (s : ℕ) (rows : List Row) where
   -- A call with an accepted record and a letter of the table is taken, and moves the record on.
   pub tick-taken : (watch : Watch) (l : ℕ) → CallValid s rows watch → l < letters s
-      → tickAnswer s rows watch l ≡ record
-      { outcome = Taken; watch = watchOf (tick rows l (phasesOf watch)) }
+      → tickAnswer s rows watch l ≡ movedOn rows l watch
   unfolding tickAnswer answered
   tick-taken watch l ok h = rw (ok .rules, ok .state, lt-ltb l (letters s) h)
 
@@ -125,41 +123,47 @@ start-phase i =
     ap (λ (l : List Phase). getD l i Waiting) (phases-watch (replicate mostRows Waiting))
     ∙ waits-at mostRows i
 
--- The number, the line and the record of an answer.
-pub number-is : (n : ℕ) (moved watch : Watch) → numberOf (answered n moved watch .outcome) ≡ n
-unfolding answered
-number-is zero moved watch = refl
-number-is (suc n) moved watch = refl
+-- The number and the line of an answer, and what a refusal leaves.
+module _ {A : Type 0} (done : A) (refused : ℕ → A) where
+  pub number-is : (n : ℕ) (number : A → ℕ) → number done ≡ 0
+      → ((k : ℕ) → number (refused k) ≡ k) → number (answered n done refused) ≡ n
+  unfolding answered
+  number-is zero number d r = d
+  number-is (suc n) number d r = r (suc n)
 
-pub line-is : (n : ℕ) (moved watch : Watch) → lineOf (answered n moved watch .outcome) ≡ 0
-unfolding answered
-line-is zero moved watch = refl
-line-is (suc n) moved watch = refl
+  pub line-is : (n : ℕ) (line : A → ℕ) → line done ≡ 0
+      → ((k : ℕ) → line (refused k) ≡ 0) → line (answered n done refused) ≡ 0
+  unfolding answered
+  line-is zero line d r = d
+  line-is (suc n) line d r = r (suc n)
 
-pub kept-is : (n k : ℕ) (moved watch : Watch) → n ≡ suc k → answered n moved watch .watch ≡ watch
-unfolding answered
-kept-is zero k moved watch e = absurd (omega arith)
-kept-is (suc n) k moved watch e = refl
+  pub refused-is : (n k : ℕ) → n ≡ suc k → answered n done refused ≡ refused n
+  unfolding answered
+  refused-is zero k e = absurd (omega arith)
+  refused-is (suc n) k e = refl
 
 module _ (s : ℕ) (rows : List Row) (watch : Watch) (l : ℕ) where
-  pub answer-number : numberOf (tickAnswer s rows watch l .outcome)
-      ≡ firstNumber (rowsValid s rows) (phasesValid rows (phasesOf watch)) (letterValid s l)
-  unfolding tickAnswer
-  answer-number = number-is _ (watchOf (tick rows l (phasesOf watch))) watch
+  abbrev done : Ticked
+  done = movedOn rows l watch
 
-  pub answer-line : lineOf (tickAnswer s rows watch l .outcome) ≡ 0
-  unfolding tickAnswer
-  answer-line =
-      line-is (firstNumber (rowsValid s rows) (phasesValid rows (phasesOf watch)) (letterValid s l))
-      (watchOf (tick rows l (phasesOf watch))) watch
+  abbrev first : ℕ
+  first = firstNumber (rowsValid s rows) (phasesValid rows (phasesOf watch)) (letterValid s l)
 
-  pub answer-kept : (n : ℕ) → numberOf (tickAnswer s rows watch l .outcome) ≡ suc n
-      → tickAnswer s rows watch l .watch ≡ watch
+  pub answer-number : numberOf (tickAnswer s rows watch l .reply .outcome) ≡ first
   unfolding tickAnswer
-  answer-kept n e =
-      kept-is
-      (firstNumber (rowsValid s rows) (phasesValid rows (phasesOf watch)) (letterValid s l)) n
-      (watchOf (tick rows l (phasesOf watch))) watch (sym answer-number ∙ e)
+  answer-number = number-is done (refusedWith watch) first
+      (λ (t : Ticked). numberOf (t .reply .outcome)) refl (λ k. refl)
+
+  pub answer-line : lineOf (tickAnswer s rows watch l .reply .outcome) ≡ 0
+  unfolding tickAnswer
+  answer-line = line-is done (refusedWith watch) first
+      (λ (t : Ticked). lineOf (t .reply .outcome)) refl (λ k. refl)
+
+  -- the record is kept, and nothing happened
+  pub answer-refused : (n : ℕ) → numberOf (tickAnswer s rows watch l .reply .outcome) ≡ suc n
+      → tickAnswer s rows watch l ≡ refusedWith watch first
+  unfolding tickAnswer
+  answer-refused n e = refused-is done (refusedWith watch) first n (sym answer-number ∙ e)
 
 -- After a trace each row is where its own system is.
 pub row-follows : (s : ℕ) (rows : List Row) (watch : Watch) (w : List ℕ) → CallValid s rows watch

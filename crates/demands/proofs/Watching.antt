@@ -1,11 +1,12 @@
 -- What is promised of the watcher, each with its proof. Assumes nothing.
-use Prim.Native.Nat.{ℕ, suc, _<_}
+use Prim.Native.Nat.{ℕ, suc, _<_, _≤_}
 use mathlib.Core.Bool.{true}
 use mathlib.Core.List.{List, map}
 use mathlib.Core.Path.{_≡_, sym, ap, _∙_}
-use lib.ListN.{length, getD}
+use lib.ListN.{length, getD, replicate}
 use Rattle.letters.specs.Letter.{letters, letterValid}
 use Rattle.letters.specs.Lists.{every}
+use Rattle.table.specs.Limits.{mostRows}
 use Rattle.table.specs.Row.{noRow}
 use Rattle.table.specs.Valid.{rowsValid, tableValid, rowsOf}
 use Rattle.table.specs.declared.Row.{Row}
@@ -15,6 +16,7 @@ use Rattle.traces.specs.Trace.{AllBelow, run}
 use Rattle.step.specs.declared.Phase.{Phase}
 use Rattle.step.specs.declared.Phase.the-variants.{Waiting}
 use Rattle.step.specs.Phase.{codeOf, isBroken}
+use Rattle.step.specs.Events.{Event, timesOf}
 use Rattle.step.specs.further.Codes.{phaseOf}
 use Rattle.step.specs.Tick.{someBroken, rowSystem, tableSystem}
 use Rattle.step.specs.Valid.{phasesValid}
@@ -23,14 +25,15 @@ use Rattle.step.proofs.States.{codes-valid, codes-phases}
 use Rattle.step.proofs.Systems.{row-lawful}
 use Rattle.traces.proofs.Runs.{broken-run}
 use Rattle.table.specs.declared.Outcome.the-variants.{Accepted as Taken}
+use Rattle.watcher.specs.declared.Played.{Played}
 use Rattle.watcher.specs.declared.Ticked.{Ticked}
 use Rattle.watcher.specs.declared.Watch.{Watch}
-use Rattle.watcher.specs.Watch.{phasesOf, watchOf, startWatch}
-use Rattle.watcher.specs.Answer.{firstNumber, tickAnswer}
+use Rattle.watcher.specs.Watch.{phasesOf, watchOf, startWatch, countOf, noCounts}
+use Rattle.watcher.specs.Answer.{firstNumber, nothingHappened, tickAnswer}
 use Rattle.watcher.specs.inner.Tables.{tableTick, tablePlay}
 use Rattle.table.specs.further.Numbers.{numberOf, lineOf}
 use Rattle.watcher.proofs.Records.{watch-phases, phases-watch}
-use Rattle.demands.specs.Watching.{recordAfter, CallValid}
+use Rattle.demands.specs.Watching.{recordAfter, eventsOver, CallValid}
 use Rattle.demands.proofs.WatchLaws as Laws
 use Rattle.demands.proofs.WatchLaws.{start-phase}
 use Rattle.demands.proofs.WatchCalls as Calls
@@ -53,8 +56,8 @@ module _ (s : ℕ) (rows : List Row) (watch : Watch) (ok : CallValid s rows watc
   stays-accepted = Laws.after-accepted s rows watch w ok h
 
   pub never-refused : (l : ℕ) → l < letters s
-      → tickAnswer s rows (recordAfter s rows watch w) l .outcome ≡ Taken
-  never-refused l low = ap (λ (t : Ticked). t .outcome)
+      → tickAnswer s rows (recordAfter s rows watch w) l .reply .outcome ≡ Taken
+  never-refused l low = ap (λ (t : Ticked). t .reply .outcome)
       (Laws.tick-taken s rows (recordAfter s rows watch w) l stays-accepted low)
 
   -- "Broken stays broken": a row, and so the trace.
@@ -102,44 +105,65 @@ codes-determine s rows one other p q e =
     ∙ watch-phases other
 
 -- Demand 1: a call is refused "by the first fitting number", with line 0, and then keeps the
--- record.
+-- record; nothing happened then.
 module _ (s : ℕ) (rows : List Row) (watch : Watch) (l : ℕ) where
-  pub first-number : numberOf (tickAnswer s rows watch l .outcome)
+  pub first-number : numberOf (tickAnswer s rows watch l .reply .outcome)
       ≡ firstNumber (rowsValid s rows) (phasesValid rows (phasesOf watch)) (letterValid s l)
   first-number = Laws.answer-number s rows watch l
 
-  pub no-line : lineOf (tickAnswer s rows watch l .outcome) ≡ 0
+  pub no-line : lineOf (tickAnswer s rows watch l .reply .outcome) ≡ 0
   no-line = Laws.answer-line s rows watch l
 
-  pub refused-keeps : (n : ℕ) → numberOf (tickAnswer s rows watch l .outcome) ≡ suc n
-      → tickAnswer s rows watch l .watch ≡ watch
-  refused-keeps = Laws.answer-kept s rows watch l
+  module _ (n : ℕ) (is : numberOf (tickAnswer s rows watch l .reply .outcome) ≡ suc n) where
+    pub refused-keeps : tickAnswer s rows watch l .watch ≡ watch
+    refused-keeps = ap (λ (t : Ticked). t .watch) (Laws.answer-refused s rows watch l n is)
+
+    pub refused-none : tickAnswer s rows watch l .reply .events ≡ nothingHappened
+    refused-none = ap (λ (t : Ticked). t .reply .events) (Laws.answer-refused s rows watch l n is)
 
 -- The same of the calls with a table value: of one that 17 lets by a tick is that of its rows, and
--- a trace that is played gives the record after one call for each letter.
+-- a trace that is played gives the record after one call for each letter, and how often each event
+-- happened at these calls.
 module _ (table : Table) (watch : Watch) where
   pub tick-as-rows : (l : ℕ) → tableValid table ≡ true
       → tableTick table watch l ≡ tickAnswer (table .signals) (rowsOf table) watch l
   tick-as-rows = Calls.tick-as-rows table watch
 
-  pub played : (w : List ℕ) → tableValid table ≡ true
-      → phasesValid (rowsOf table) (phasesOf watch) ≡ true → AllBelow (letters (table .signals)) w
-      → tablePlay table watch w
-      ≡ record { outcome = Taken; watch = recordAfter (table .signals) (rowsOf table) watch w }
-  played = Calls.played table watch
+  module _ (w : List ℕ) (passes : tableValid table ≡ true)
+      (fits : phasesValid (rowsOf table) (phasesOf watch) ≡ true)
+      (low : AllBelow (letters (table .signals)) w) where
+    pub played : (tablePlay table watch w .outcome ≡ Taken)
+        × (tablePlay table watch w .watch ≡ recordAfter (table .signals) (rowsOf table) watch w)
+    played = (
+      Calls.play-taken table watch w passes fits low,
+      Calls.play-follows table watch w passes fits low,
+    )
+
+    pub counted : (i : ℕ) → i < mostRows → (event : Event)
+        → countOf (getD (tablePlay table watch w .counts) i noCounts) event
+        ≡ timesOf event i (eventsOver (table .signals) (rowsOf table) watch w)
+    counted = Calls.play-counts table watch w passes fits low
+
+    -- No count exceeds the trace's length.
+    pub counted-most : (i : ℕ) → i < mostRows → (event : Event)
+        → countOf (getD (tablePlay table watch w .counts) i noCounts) event ≤ length w
+    counted-most = Calls.play-most table watch w passes fits low
 
   module _ (l : ℕ) where
-    pub tick-number : numberOf (tableTick table watch l .outcome)
+    pub tick-number : numberOf (tableTick table watch l .reply .outcome)
         ≡ firstNumber (tableValid table) (phasesValid (rowsOf table) (phasesOf watch))
         (letterValid (table .signals) l)
     tick-number = Calls.tick-number table watch l
 
-    pub tick-line : lineOf (tableTick table watch l .outcome) ≡ 0
+    pub tick-line : lineOf (tableTick table watch l .reply .outcome) ≡ 0
     tick-line = Calls.tick-line table watch l
 
-    pub tick-kept : (n : ℕ) → numberOf (tableTick table watch l .outcome) ≡ suc n
-        → tableTick table watch l .watch ≡ watch
-    tick-kept = Calls.tick-kept table watch l
+    module _ (n : ℕ) (is : numberOf (tableTick table watch l .reply .outcome) ≡ suc n) where
+      pub tick-kept : tableTick table watch l .watch ≡ watch
+      tick-kept = ap (λ (t : Ticked). t .watch) (Calls.tick-refused table watch l n is)
+
+      pub tick-none : tableTick table watch l .reply .events ≡ nothingHappened
+      tick-none = ap (λ (t : Ticked). t .reply .events) (Calls.tick-refused table watch l n is)
 
   module _ (w : List ℕ) where
     pub play-number : numberOf (tablePlay table watch w .outcome)
@@ -150,6 +174,9 @@ module _ (table : Table) (watch : Watch) where
     pub play-line : lineOf (tablePlay table watch w .outcome) ≡ 0
     play-line = Calls.play-line table watch w
 
-    pub play-kept : (n : ℕ) → numberOf (tablePlay table watch w .outcome) ≡ suc n
-        → tablePlay table watch w .watch ≡ watch
-    play-kept = Calls.play-kept table watch w
+    module _ (n : ℕ) (is : numberOf (tablePlay table watch w .outcome) ≡ suc n) where
+      pub play-kept : tablePlay table watch w .watch ≡ watch
+      play-kept = ap (λ (p : Played). p .watch) (Calls.play-refused table watch w n is)
+
+      pub play-none : tablePlay table watch w .counts ≡ replicate mostRows noCounts
+      play-none = ap (λ (p : Played). p .counts) (Calls.play-refused table watch w n is)

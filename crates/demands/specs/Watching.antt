@@ -5,6 +5,7 @@ use mathlib.Core.List.{List, [], _∷_}
 use mathlib.Core.Path.{_≡_}
 use Rattle.table.specs.Valid.{rowsValid}
 use Rattle.table.specs.declared.Row.{Row}
+use Rattle.step.specs.declared.Events.{Events}
 use Rattle.step.specs.Valid.{phasesValid}
 use Rattle.watcher.specs.declared.Watch.{Watch}
 use Rattle.watcher.specs.Watch.{phasesOf}
@@ -14,6 +15,13 @@ use Rattle.watcher.specs.Answer.{tickAnswer}
 unfoldable pub recordAfter : ℕ → List Row → Watch → List ℕ → Watch
 recordAfter s rows watch [] = watch
 recordAfter s rows watch (l ∷ w) = recordAfter s rows (tickAnswer s rows watch l .watch) w
+
+-- What happened to each row at each of these calls.
+unfoldable pub eventsOver : ℕ → List Row → Watch → List ℕ → List (List Events)
+eventsOver s rows watch [] = []
+eventsOver s rows watch (l ∷ w) =
+    let ticked = tickAnswer s rows watch l in
+    ticked .reply .events ∷ eventsOver s rows (ticked .watch) w
 
 -- Numbers 17 and 18 let the signal count, the rows and the record by.
 pub record CallValid (s : ℕ) (rows : List Row) (watch : Watch) : Type 0 where

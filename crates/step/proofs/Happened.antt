@@ -11,9 +11,9 @@ use Rattle.table.specs.declared.Row.{Row}
 use Rattle.step.specs.declared.Phase.{Phase}
 use Rattle.step.specs.declared.Phase.the-variants.{Waiting, Trigger, Delay, Action, Broken}
 use Rattle.step.specs.declared.Events.{Events}
-use Rattle.step.specs.further.Events.{noEvents, onlyAborted, onlyCompleted, onlyBroken}
-use Rattle.step.specs.further.Events.{withStarted, withRealised, withActing}
-use Rattle.step.specs.further.Events.{actionEvents, delayEvents, triggerEvents, rowEvents}
+use Rattle.step.specs.Events.{noEvents, onlyAborted, onlyCompleted, onlyBroken}
+use Rattle.step.specs.Events.{withStarted, withRealised, withActing}
+use Rattle.step.specs.Events.{actionEvents, delayEvents, triggerEvents, rowEvents}
 use Rattle.step.specs.further.Happened.{TriggerChecked, Realised, Aborted}
 use Rattle.step.specs.further.Happened.{DelayChecked, ActionStarted, ActionChecked, Completed}
 

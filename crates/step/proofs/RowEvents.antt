@@ -1,5 +1,5 @@
--- What the events of a row step say of its phases, before and after; those of a tick and of a trace,
--- row by row. Assumes nothing.
+-- What the events of a row step say of its phases, before and after; those of a tick and of a
+-- trace, row by row. Assumes nothing.
 use Prim.Native.Nat.{ℕ, zero, suc, _+_, _≤_, _<_}
 use native.Mathlib.Omega.{arith}
 use mathlib.Core.Bool.{Bool, true, false, _&&_, not, cond, true≢false}
@@ -17,16 +17,12 @@ use Rattle.step.specs.declared.Events.{Events}
 use Rattle.step.specs.Phase.{isBroken}
 use Rattle.step.specs.Valid.{isWaiting}
 use Rattle.step.specs.Step.{actionCheck, delayCheck, triggerCheck, stepRow}
-use Rattle.step.specs.further.Events.{noEvents, onlyAborted, onlyCompleted, onlyBroken, isOpen}
-use Rattle.step.specs.further.Events.{withStarted, withRealised, withActing}
-use Rattle.step.specs.further.Events.{actionEvents, delayEvents, triggerEvents, rowEvents}
-use Rattle.step.specs.further.Events.{tickEvents, traceEvents, timesOf}
+use Rattle.step.specs.Events.{noEvents, onlyAborted, onlyCompleted, onlyBroken, isOpen}
+use Rattle.step.specs.Events.{withStarted, withRealised, withActing}
+use Rattle.step.specs.Events.{actionEvents, delayEvents, triggerEvents, rowEvents}
+use Rattle.step.specs.Events.{tickEvents, traceEvents, Event, happens, timesOf}
 use Rattle.step.specs.Tick.{tick}
-
--- Exactly one of aborted and completed.
-abbrev pub OneEnd : Events → Type 0
-OneEnd e =
-    ((e .aborted ≡ true) × (e .completed ≡ false)) ⊎ ((e .aborted ≡ false) × (e .completed ≡ true))
+use Rattle.step.specs.further.Happened.{OneEnd}
 
 -- What the events of a check say of the phase that it leads to, where the row was open or not.
 record Ends (was : Bool) (phase : Phase) (e : Events) : Type 0 where
@@ -99,7 +95,8 @@ module _ (row : Row) (letter : ℕ) where
             realised = acts .realised;
           }
 
-      go : (done on : Bool) → Acts (cond done (actionCheck row letter 0) (cond on (Delay (d + 1)) Broken))
+      go : (done on : Bool)
+          → Acts (cond done (actionCheck row letter 0) (cond on (Delay (d + 1)) Broken))
           (cond done (withActing (actionEvents row letter 0)) (cond on noEvents onlyBroken))
       go true on = next
       go false true = acts-on refl refl refl
@@ -120,11 +117,13 @@ module _ (row : Row) (letter : ℕ) where
             waits = acts .ends .waits;
           }
 
-      go : (done on : Bool) → Ends false (cond done (delayCheck row letter 0) (cond on (Trigger (t + 1)) Waiting))
+      go : (done on : Bool)
+          → Ends false (cond done (delayCheck row letter 0) (cond on (Trigger (t + 1)) Waiting))
           (cond done (withRealised (delayEvents row letter 0)) (cond on noEvents onlyAborted))
       go true on = next
       go false true = ends-on refl refl refl
-      go false false = record { started = refl; broken = refl; sums = refl; waits = λ _. inl (refl, refl) }
+      go false false =
+          record { started = refl; broken = refl; sums = refl; waits = λ _. inl (refl, refl) }
 
   -- The trigger starts exactly when the row waits and TSE holds.
   pub started-exactly : (phase : Phase)
@@ -230,11 +229,12 @@ unfolding traceEvents
 trace-events rows phases [] = refl
 trace-events rows phases (l ∷ w) = ap suc (trace-events rows (tick rows l phases) w)
 
-pub times-few : (event : Events → Bool) (i : ℕ) (ticks : List (List Events))
+pub times-few : (event : Event) (i : ℕ) (ticks : List (List Events))
     → timesOf event i ticks ≤ length ticks
 unfolding timesOf
 times-few event i [] = omega arith
-times-few event i (events ∷ more) = go (event (getD events i noEvents)) (times-few event i more)
+times-few event i (events ∷ more) = go (happens (getD events i noEvents) event)
+    (times-few event i more)
   where
     go : (b : Bool) → timesOf event i more ≤ length more
         → bit b + timesOf event i more ≤ suc (length more)

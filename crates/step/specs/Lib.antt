@@ -2,6 +2,7 @@
 pub mod Phase
 pub mod Step
 pub mod Tick
+pub mod Events
 pub mod Valid
 pub mod further
 pub mod inner

@@ -5,7 +5,6 @@ use lib.Dec.{leb, ltb}
 use Rattle.table.specs.Row.{holds, tse, tc, tee, ase, ac, aee}
 use Rattle.table.specs.declared.Row.{Row}
 use Rattle.step.specs.declared.Phase.{Phase}
-use Rattle.step.specs.declared.Stepped.{Stepped}
 use Rattle.step.specs.declared.Phase.the-variants.{Waiting, Trigger, Delay, Action, Broken}
 
 -- "Action check, a: if AEE holds and a >= Amin: waiting. Else if AC holds and a < Amax: action,
@@ -38,10 +37,3 @@ stepRow row letter (Trigger t) = triggerCheck row letter t
 stepRow row letter (Delay d) = delayCheck row letter d
 stepRow row letter (Action a) = actionCheck row letter a
 stepRow row letter Broken = Broken
-
--- All that a row step gives.
-abbrev pub steppedTo : Phase → Stepped
-steppedTo phase = record { phase = phase }
-
-abbrev pub stepped : Row → ℕ → Phase → Stepped
-stepped row letter phase = steppedTo (stepRow row letter phase)

@@ -1,4 +1,3 @@
 -- What only the further promises speak of.
 pub mod Codes
-pub mod Events
 pub mod Happened

@@ -1,5 +1,5 @@
 // The step rules: a row's phase, and what one letter does to it. specs/Phase.antt and
-// specs/Step.antt say what is right.
+// specs/Step.antt say what is right, specs/Events.antt what happens at it.
 use table::AC;
 use table::AEE;
 use table::ASE;
@@ -8,12 +8,15 @@ use table::Row;
 use table::TC;
 use table::TEE;
 use table::TSE;
+ghost use mathlib.Core.Bool.{false};
 ghost use mathlib.Core.Path.{_≡_};
 ghost use Rattle.step.specs.Phase.{codeOf};
 ghost use Rattle.step.specs.further.Codes.{phaseOf};
-ghost use Rattle.step.specs.declared.Phase.the-variants.{Waiting};
+ghost use Rattle.step.specs.declared.Phase.the-variants.{Waiting, Broken};
 ghost use Rattle.step.specs.Step.{actionCheck, delayCheck, triggerCheck};
-ghost use Rattle.step.specs.Step.{steppedTo, stepped};
+ghost use Rattle.step.specs.Events.{eventsOf, noEvents, onlyAborted, onlyCompleted};
+ghost use Rattle.step.specs.Events.{withRealised, withActing, steppedTo, stepped};
+ghost use Rattle.step.specs.Events.{actionEvents, delayEvents, triggerEvents};
 ghost use Rattle.step.specs.inner.Check.{checkOf};
 ghost use Rattle.step.specs.Valid.{phaseValid, isWaiting};
 
@@ -47,6 +50,7 @@ pub struct Events {
 // What one letter does to a row.
 pub struct Stepped {
     pub phase: Phase,
+    pub events: Events,
 }
 
 // How the check of a phase ends: the phase is done, continues with so many elapsed ticks, or fails.
@@ -74,56 +78,120 @@ fn check_of(end: bool, hold: bool, least: u8, most: u8, t: u8) -> Check
     Check::Fail
 }
 
-fn stepped_to(phase: Phase) -> Stepped
-    ensures { λ r. ⌜ r ≡ steppedTo phase ⌝ }
+// Nothing happens.
+pub fn no_events() -> Events
+    ensures { λ r. ⌜ r ≡ noEvents ⌝ }
 {
-    Stepped { phase }
+    Events {
+        started: false,
+        realised: false,
+        aborted: false,
+        acting: false,
+        completed: false,
+        broken: false,
+    }
+}
+
+// Nothing happens but that the row is in a phase then.
+fn goes_on(phase: Phase) -> Stepped
+    ensures { λ r. ⌜ r ≡ steppedTo phase noEvents ⌝ }
+{
+    Stepped {
+        phase,
+        events: no_events(),
+    }
+}
+
+// The trigger is aborted; the action is completed; the row is broken, since this letter or before.
+fn aborts() -> Stepped
+    ensures { λ r. ⌜ r ≡ steppedTo Waiting onlyAborted ⌝ }
+{
+    let mut lapsed = goes_on(Phase::Waiting);
+    lapsed.events.aborted = true;
+    lapsed
+}
+
+fn completes() -> Stepped
+    ensures { λ r. ⌜ r ≡ steppedTo Waiting onlyCompleted ⌝ }
+{
+    let mut stepped = goes_on(Phase::Waiting);
+    stepped.events.completed = true;
+    stepped
+}
+
+fn breaks(now: bool) -> Stepped
+    ensures { λ r. ⌜ r ≡ steppedTo Broken (eventsOf false false false false false now) ⌝ }
+{
+    let mut stepped = goes_on(Phase::Broken);
+    stepped.events.broken = now;
+    stepped
 }
 
 fn action_check(row: Row, letter: u8, a: u8) -> Stepped
-    ensures { λ r. ⌜ r ≡ steppedTo (actionCheck row letter a) ⌝ }
+    ensures { λ r. ⌜ r ≡ steppedTo (actionCheck row letter a) (actionEvents row letter a) ⌝ }
 {
     let end = letters::contains(row.sets[AEE], letter);
     let hold = letters::contains(row.sets[AC], letter);
     match check_of(end, hold, row.amin, row.amax, a) {
-        Check::Done => stepped_to(Phase::Waiting),
-        Check::Continue(n) => stepped_to(Phase::Action(n)),
-        Check::Fail => stepped_to(Phase::Broken),
+        Check::Done => completes(),
+        Check::Continue(n) => goes_on(Phase::Action(n)),
+        Check::Fail => breaks(true),
     }
+}
+
+// The action check of an action that starts.
+fn action_start(row: Row, letter: u8) -> Stepped
+    ensures { λ r. ⌜ r
+        ≡ steppedTo (actionCheck row letter 0) (withActing (actionEvents row letter 0)) ⌝ }
+{
+    let mut stepped = action_check(row, letter, 0);
+    stepped.events.acting = true;
+    stepped
 }
 
 fn delay_check(row: Row, letter: u8, d: u8) -> Stepped
-    ensures { λ r. ⌜ r ≡ steppedTo (delayCheck row letter d) ⌝ }
+    ensures { λ r. ⌜ r ≡ steppedTo (delayCheck row letter d) (delayEvents row letter d) ⌝ }
 {
     let end = letters::contains(row.sets[ASE], letter);
     match check_of(end, true, row.lmin, row.lmax, d) {
-        Check::Done => action_check(row, letter, 0),
-        Check::Continue(n) => stepped_to(Phase::Delay(n)),
-        Check::Fail => stepped_to(Phase::Broken),
+        Check::Done => action_start(row, letter),
+        Check::Continue(n) => goes_on(Phase::Delay(n)),
+        Check::Fail => breaks(true),
     }
 }
 
+// The delay check after a trigger that is realised.
+fn delay_start(row: Row, letter: u8) -> Stepped
+    ensures { λ r. ⌜ r
+        ≡ steppedTo (delayCheck row letter 0) (withRealised (delayEvents row letter 0)) ⌝ }
+{
+    let mut stepped = delay_check(row, letter, 0);
+    stepped.events.realised = true;
+    stepped
+}
+
 fn trigger_check(row: Row, letter: u8, t: u8) -> Stepped
-    ensures { λ r. ⌜ r ≡ steppedTo (triggerCheck row letter t) ⌝ }
+    ensures { λ r. ⌜ r ≡ steppedTo (triggerCheck row letter t) (triggerEvents row letter t) ⌝ }
 {
     let end = letters::contains(row.sets[TEE], letter);
     let hold = letters::contains(row.sets[TC], letter);
     match check_of(end, hold, row.tmin, row.tmax, t) {
-        Check::Done => delay_check(row, letter, 0),
-        Check::Continue(n) => stepped_to(Phase::Trigger(n)),
-        Check::Fail => stepped_to(Phase::Waiting),
+        Check::Done => delay_start(row, letter),
+        Check::Continue(n) => goes_on(Phase::Trigger(n)),
+        Check::Fail => aborts(),
     }
 }
 
-// What one letter does to a row that waits.
+// What one letter does to a row that waits: the trigger starts if TSE holds.
 fn start_check(row: Row, letter: u8) -> Stepped
     ensures { λ r. ⌜ r ≡ stepped row letter Waiting ⌝ }
 {
-    if letters::contains(row.sets[TSE], letter) {
-        trigger_check(row, letter, 0)
-    } else {
-        stepped_to(Phase::Waiting)
+    if !letters::contains(row.sets[TSE], letter) {
+        return goes_on(Phase::Waiting);
     }
+    let mut stepped = trigger_check(row, letter, 0);
+    stepped.events.started = true;
+    stepped
 }
 
 // What one letter does to a row in a phase, for any row, letter and phase.
@@ -135,7 +203,7 @@ pub fn step_row(row: Row, letter: u8, phase: Phase) -> Stepped
         Phase::Trigger(t) => trigger_check(row, letter, t),
         Phase::Delay(d) => delay_check(row, letter, d),
         Phase::Action(a) => action_check(row, letter, a),
-        Phase::Broken => stepped_to(Phase::Broken),
+        Phase::Broken => breaks(false),
     }
 }
 

@@ -1,6 +1,9 @@
 // Searches random tables and compares the answer, and every place of the lent lists, with those of
-// a second search (second.rt). Prints how many tables agreed, and what kinds of answers there were.
+// a second search (second.rt). Ticks them along random traces, and compares phases and events with
+// a second reading of the rules (watched.rt). Prints how many tables agreed, and what kinds of
+// answers there were.
 mod compare;
+mod counts;
 mod doomed;
 mod earliest;
 mod expected;
@@ -11,9 +14,12 @@ mod random;
 mod reached;
 mod rules;
 mod second;
+mod seen;
 mod spoil;
+mod starts;
 mod strike;
 mod tally;
+mod watched;
 
 use compare::compare_answers;
 use compare::compare_lists;
@@ -41,6 +47,7 @@ use tally::noted;
 use tally::print;
 use tally::reported;
 use verdict::Found;
+use watched::follow;
 
 const TABLES: u64 = 10000;
 
@@ -83,7 +90,8 @@ fn search_lent(seed: u64, table: Table, lengths: Lengths) -> Searched {
     Searched { found, after }
 }
 
-// Searches a table with lent lists of some lengths, compares, and counts it.
+// Searches a table with lent lists of some lengths and follows it along a trace, compares, and
+// counts it.
 fn attempt(
     seed: u64,
     table: Table,
@@ -102,13 +110,9 @@ fn attempt(
     let differs = lists | compare_answers(found, right);
     let changed = is_struck(strike);
     let noted = noted(tally, changed, differs);
-    counted(
-        noted,
-        right,
-        table.count,
-        reported(changed, differs),
-        solved.kinds,
-    )
+    let followed = follow(seed ^ 6, table, valid, tally.seen);
+    let all = reported(changed, differs) | followed.differs;
+    counted(noted, right, table.count, all, solved.kinds, followed.seen)
 }
 
 // Makes a table, solves it by the second search, and tries the first on it, or now and then on the

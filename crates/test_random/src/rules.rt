@@ -1,5 +1,6 @@
 // The step rules of document 01 over phase codes: "0 waiting; 1-60 trigger elapsed; 60 + elapsed
-// for delay; 120 + elapsed for action; 255 broken".
+// for delay; 120 + elapsed for action; 255 broken"; and which of the events of document 02, ask 1,
+// happen at a letter.
 use table::AC;
 use table::AEE;
 use table::ASE;
@@ -105,4 +106,93 @@ pub fn step(table: Table, state: u64, letter: u8) -> u64 {
         }
     }
     next
+}
+
+// What happens to a row at a letter is a number with a bit for each of the six events.
+pub const STARTED: u8 = 1;
+
+pub const REALISED: u8 = 2;
+
+pub const ABORTED: u8 = 4;
+
+pub const ACTING: u8 = 8;
+
+pub const COMPLETED: u8 = 16;
+
+pub const BROKE: u8 = 32;
+
+// Stands for the elapsed ticks of a check that is not done at the letter.
+const NOT_DONE: u8 = 255;
+
+// "trigger started": the row waits and TSE holds.
+fn starts(row: Row, code: u8, letter: u8) -> bool {
+    (code == 0) & holds(row.sets[TSE], letter)
+}
+
+// The elapsed ticks with which the trigger check is done at the letter.
+fn trigger_ticks(row: Row, code: u8, letter: u8) -> u8 {
+    if starts(row, code, letter) {
+        0
+    } else if (0 < code) & (code <= 60) {
+        code
+    } else {
+        NOT_DONE
+    }
+}
+
+// "if TEE holds and t >= Tmin, the trigger is realised".
+fn realises(row: Row, code: u8, letter: u8) -> bool {
+    let t = trigger_ticks(row, code, letter);
+    (t != NOT_DONE) & holds(row.sets[TEE], letter) & (row.tmin <= t)
+}
+
+// "Else waiting (aborted)": neither realised nor in trigger after its check.
+fn aborts(row: Row, code: u8, letter: u8, after: u64) -> bool {
+    let t = trigger_ticks(row, code, letter);
+    (t != NOT_DONE) & !realises(row, code, letter) & (after == WAITING)
+}
+
+// The elapsed ticks with which the delay check is done at the letter.
+fn delay_ticks(row: Row, code: u8, letter: u8) -> u8 {
+    if realises(row, code, letter) {
+        return 0;
+    }
+    if 60 < code {
+        if code <= 120 {
+            return code - 60;
+        }
+    }
+    NOT_DONE
+}
+
+// "action started": "if ASE holds and d >= Lmin".
+fn acts(row: Row, code: u8, letter: u8) -> bool {
+    let d = delay_ticks(row, code, letter);
+    (d != NOT_DONE) & holds(row.sets[ASE], letter) & (row.lmin <= d)
+}
+
+// "action completed": an action is on, or starts, and the row waits after the letter.
+fn completes(row: Row, code: u8, letter: u8, after: u64) -> bool {
+    let on = (120 < code) & (code < 255);
+    (on | acts(row, code, letter)) & (after == WAITING)
+}
+
+fn bit(happens: bool, event: u8) -> u8 {
+    if happens { event } else { 0 }
+}
+
+// "which of these happened". "A row already broken has none."
+pub fn events(row: Row, code: u8, letter: u8) -> u8 {
+    let after = step_row(row, code, letter);
+    bit(starts(row, code, letter), STARTED)
+        | bit(realises(row, code, letter), REALISED)
+        | bit(aborts(row, code, letter, after), ABORTED)
+        | bit(acts(row, code, letter), ACTING)
+        | bit(completes(row, code, letter, after), COMPLETED)
+        | bit((code != 255) & (after == BROKEN_ROW), BROKE)
+}
+
+// A row's code after a letter, broken or not.
+pub fn code_after(row: Row, code: u8, letter: u8) -> u8 {
+    (step_row(row, code, letter) % 256) as u8
 }

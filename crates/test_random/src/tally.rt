@@ -6,6 +6,9 @@ use crate::expected::TRAPPED;
 use crate::kinds::Kinds;
 use crate::lists::larger;
 use crate::lists::one_more;
+use crate::seen::Seen;
+use crate::seen::nothing;
+use crate::seen::print_seen;
 use libc::STDOUT_FILENO;
 
 pub struct Tally {
@@ -32,6 +35,7 @@ pub struct Tally {
     pub joined: usize,
     pub fell_back: usize,
     pub longest_fall: usize,
+    pub seen: Seen,
 }
 
 // So many lines are printed of it.
@@ -65,6 +69,7 @@ pub fn none() -> Tally {
         joined: 0,
         fell_back: 0,
         longest_fall: 0,
+        seen: nothing(),
     }
 }
 
@@ -86,7 +91,7 @@ fn print_word(text: &[u8], n: usize) {
     }
 }
 
-fn print_line(text: &[u8], n: usize, number: usize) {
+pub(crate) fn print_line(text: &[u8], n: usize, number: usize) {
     print_word(text, n);
     io::print_decimal(STDOUT_FILENO, number as u64);
     io::write_all(STDOUT_FILENO, b"\n");
@@ -99,15 +104,16 @@ fn print_difference(bits: u16, number: usize) {
     }
     let text: &[u8] = b"refusal #verdict #trace length #lost number #count #\
         states #predecessors #letters #lost numbers #trace #\
-        the walk's lost numbers #a changed place #differ in table #";
+        the walk's lost numbers #a changed place #a watcher's refusal #\
+        phases #events #event counts #differ in table #";
     let mut left = bits;
-    for n in 0..12 {
+    for n in 0..16 {
         if left % 2 == 1 {
             print_word(text, n);
         }
         left = left / 2;
     }
-    print_line(text, 12, number);
+    print_line(text, 16, number);
 }
 
 // The tally with a table whose place was changed, and whether the comparison noticed it.
@@ -128,8 +134,15 @@ pub fn reported(struck: bool, differs: u16) -> u16 {
 }
 
 // The tally with one table more, of which `differs` says what differs. The paths are counted where
-// the lost numbers were compared.
-pub fn counted(t: Tally, right: Expected, rows: u8, differs: u16, kinds: Kinds) -> Tally {
+// the lost numbers were compared. `seen` has its ticks already.
+pub fn counted(
+    t: Tally,
+    right: Expected,
+    rows: u8,
+    differs: u16,
+    kinds: Kinds,
+    seen: Seen,
+) -> Tally {
     print_difference(differs | unless(kinds.same, 10), t.tables);
     let sound = right.verdict == SOUND;
     let trapped = right.verdict == TRAPPED;
@@ -159,22 +172,13 @@ pub fn counted(t: Tally, right: Expected, rows: u8, differs: u16, kinds: Kinds) 
         joined: one_more_if(t.joined, walked & kinds.joined),
         fell_back: one_more_if(t.fell_back, FALL <= fall),
         longest_fall: larger(t.longest_fall, fall),
+        seen,
     }
 }
 
-pub fn print(t: Tally) {
-    let text: &[u8] =
-        b"tables #agreed #  with a place changed after the search #  of these noticed #\
-        sound #  with several rows and over 3 states #\
-        trapped #  with an empty trace #  with a trace over 3 letters #  \
-        with a lost number over 3 #\
-        refused 17: #refused 20: #refused 21: #\
-        longest trace #largest lost number #most states #\
-        walks along paths #  with the same lost numbers #  \
-        with a path that closes on itself #  with one that closes before its end #  \
-        with a path into the living #  with a fall back through 5 doomed states or more #\
-        longest fall back #";
-    let numbers = [
+// The numbers of the lines, in their order.
+fn numbers(t: Tally) -> [usize; LINES] {
+    [
         t.tables,
         t.agreed,
         t.struck,
@@ -198,8 +202,24 @@ pub fn print(t: Tally) {
         t.joined,
         t.fell_back,
         t.longest_fall,
-    ];
+    ]
+}
+
+pub fn print(t: Tally) {
+    let text: &[u8] =
+        b"tables #agreed #  with a place changed after the search #  of these noticed #\
+        sound #  with several rows and over 3 states #\
+        trapped #  with an empty trace #  with a trace over 3 letters #  \
+        with a lost number over 3 #\
+        refused 17: #refused 20: #refused 21: #\
+        longest trace #largest lost number #most states #\
+        walks along paths #  with the same lost numbers #  \
+        with a path that closes on itself #  with one that closes before its end #  \
+        with a path into the living #  with a fall back through 5 doomed states or more #\
+        longest fall back #";
+    let numbers = numbers(t);
     for n in 0..LINES {
         print_line(text, n, numbers[n]);
     }
+    print_seen(t.seen);
 }

@@ -1,9 +1,9 @@
 // A table of eight different rows, each in another phase, and what a tick makes of all of them; and
 // the state that is kept under each refusal.
-use crate::A;
-use crate::ALWAYS;
-use crate::C;
-use crate::NEVER;
+use crate::rows::A;
+use crate::rows::ALWAYS;
+use crate::rows::C;
+use crate::rows::NEVER;
 use crate::ways::Tally;
 use libc::STDOUT_FILENO;
 use table::MOST_ROWS;
@@ -82,10 +82,10 @@ fn row_hold() -> Row {
 }
 
 fn eight_rows() -> Table {
-    let mut table = crate::one_row(crate::row_p());
+    let mut table = crate::rows::one_row(crate::rows::row_p());
     table.count = MOST_ROWS as u8;
-    table.rows[1] = crate::row_q();
-    table.rows[2] = crate::row_s();
+    table.rows[1] = crate::rows::row_q();
+    table.rows[2] = crate::rows::row_s();
     table.rows[3] = row_long();
     table.rows[4] = row_late();
     table.rows[5] = row_action();
@@ -118,7 +118,8 @@ fn eight_phases() -> Watch {
 
 fn print_before(watch: Watch) {
     io::write_all(STDOUT_FILENO, b"before: ");
-    crate::ways::print_codes(watch);
+    crate::show::print_codes(watch);
+    io::write_all(STDOUT_FILENO, b"\n");
 }
 
 // 17, 18 and 19: the state is kept.

@@ -1,118 +1,37 @@
 // The first boards of document 01 that are about single rows, run through the watcher: rows P, Q
 // and S with the signals `a c`, each with the letters read and the code that its phase then has.
-// After them, one small input for each number that a watcher call can give, and tables of eight
-// rows. Each case goes both ways (`ways`): by value, and with rows and state lent.
+// Then rows in which much happens at one letter, one small input for each number that a watcher
+// call can give, and tables of eight rows. Each case goes three ways (`ways`), and what happened to
+// each row is printed: at each tick, and as counts in the order started, realised, aborted, acting,
+// completed, broken.
 mod eight;
+mod rows;
+mod runs;
+mod show;
 mod ways;
 
 use libc::STDOUT_FILENO;
+use rows::one_row;
+use rows::one_signal;
+use rows::row_lapse;
+use rows::row_p;
+use rows::row_q;
+use rows::row_s;
+use rows::row_stand;
 use step::Phase;
 use table::Name;
-use table::Outcome;
-use table::Row;
 use table::Table;
+use watcher::Played;
 use watcher::Slot;
-use watcher::Ticked;
 use watcher::Watch;
 use ways::Tally;
 ghost use Prim.Native.Nat.{_≤_};
 
-// The conditions of the rows, as sets of the four letters: `a` holds at 1 and 3, `c` at 2 and 3.
-pub(crate) const A: u64 = 10;
-
-pub(crate) const C: u64 = 12;
-
-pub(crate) const NEVER: u64 = 0;
-
-pub(crate) const ALWAYS: u64 = 15;
-
-pub(crate) fn row_p() -> Row {
-    Row {
-        sets: [A, A, A, C, C, C],
-        tmin: 0,
-        tmax: 0,
-        lmin: 1,
-        lmax: 1,
-        amin: 0,
-        amax: 0,
-    }
-}
-
-pub(crate) fn row_q() -> Row {
-    Row {
-        sets: [A, A, C, NEVER, NEVER, NEVER],
-        tmin: 2,
-        tmax: 3,
-        lmin: 0,
-        lmax: 0,
-        amin: 0,
-        amax: 0,
-    }
-}
-
-pub(crate) fn row_s() -> Row {
-    Row {
-        sets: [A, A, A, ALWAYS, C, A],
-        tmin: 0,
-        tmax: 0,
-        lmin: 0,
-        lmax: 0,
-        amin: 1,
-        amax: 2,
-    }
-}
-
-// A table with one row and the signals `a c`.
-pub(crate) fn one_row(row: Row) -> Table {
-    let no_name = Name { chars: [0u8; 8] };
-    let no_row = Row {
-        sets: [0u64; 6],
-        tmin: 0,
-        tmax: 0,
-        lmin: 0,
-        lmax: 0,
-        amin: 0,
-        amax: 0,
-    };
-    let mut names = [no_name; 6];
-    names[0] = Name {
-        chars: [b'a', 0, 0, 0, 0, 0, 0, 0],
-    };
-    names[1] = Name {
-        chars: [b'c', 0, 0, 0, 0, 0, 0, 0],
-    };
-    let mut rows = [no_row; 8];
-    rows[0] = row;
-    Table {
-        signals: 2,
-        names,
-        count: 1,
-        rows,
-    }
-}
-
-// One signal: the row `a,a,a,0,0,1,1,!a,!a,!a,0,0`.
-fn one_signal() -> Table {
-    let row = Row {
-        sets: [2, 2, 2, 1, 1, 1],
-        tmin: 0,
-        tmax: 0,
-        lmin: 1,
-        lmax: 1,
-        amin: 0,
-        amax: 0,
-    };
-    let mut table = one_row(row);
-    table.signals = 1;
-    table.names[1] = Name { chars: [0u8; 8] };
-    table
-}
-
 // `code 61`, and before it `refused 19 line 0, ` if the call is refused: the state is kept then.
-fn print_answer(ticked: Ticked) {
-    let outcome = ticked.outcome;
-    ways::print_outcome(outcome);
-    let watch = ticked.watch;
+fn print_answer(played: Played) {
+    let outcome = played.outcome;
+    show::print_outcome(outcome);
+    let watch = played.watch;
     let slot = watch.slots[0];
     let phase = slot.phase;
     io::write_all(STDOUT_FILENO, b"code ");
@@ -163,7 +82,7 @@ fn print_play(tally: Tally, table: Table, watch: Watch, digits: u16) -> Tally {
     print_letters(trace);
     io::write_all(STDOUT_FILENO, b": ");
     print_answer(watcher::play(table, watch, trace));
-    ways::print_both(tally, table, watch, trace)
+    ways::print_ways(tally, table, watch, trace)
 }
 
 pub(crate) fn print_case(
@@ -249,7 +168,7 @@ fn letters_refused(tally: Tally) -> Tally {
 }
 
 // Number 17 of a table value looks at the names; of rows that are lent it knows the number of
-// signals alone, so here both ways differ.
+// signals alone, so here the ways differ.
 fn names_refused(tally: Tally) -> Tally {
     let mut named = one_row(row_p());
     named.names[5] = Name {
@@ -258,21 +177,33 @@ fn names_refused(tally: Tally) -> Tally {
     print_case(tally, b"unused name", named, watcher::start(), 1)
 }
 
+// The first boards.
+fn boards(tally: Tally) -> Tally {
+    let start = watcher::start();
+    let p = one_row(row_p());
+    let q = one_row(row_q());
+    let s = one_row(row_s());
+    let mut last = print_cases(tally, b"P", p, start, &[0, 1, 12, 10, 101, 13]);
+    last = print_cases(last, b"Q", q, start, &[113, 13, 1111, 1113, 10]);
+    print_cases(last, b"S", s, start, &[3, 1, 33, 322])
+}
+
+// A trigger that starts and is over at one letter.
+fn at_once(tally: Tally) -> Tally {
+    let start = watcher::start();
+    let lapse = one_row(row_lapse());
+    let stand = one_row(row_stand());
+    let last = print_case(tally, b"aborted as it starts", lapse, start, 1);
+    print_cases(last, b"every letter", stand, start, &[1, 10])
+}
+
 fn main() {
-    let none = Tally {
+    let mut tally = Tally {
         alike: 0,
         unlike: 0,
     };
-    let start = watcher::start();
-    let mut tally = print_cases(none, b"P", one_row(row_p()), start, &[0, 1, 12, 10, 13]);
-    tally = print_cases(
-        tally,
-        b"Q",
-        one_row(row_q()),
-        start,
-        &[113, 13, 1111, 1113, 10],
-    );
-    tally = print_cases(tally, b"S", one_row(row_s()), start, &[3, 1, 33, 322]);
+    tally = boards(tally);
+    tally = at_once(tally);
     tally = rules_refused(tally);
     tally = states_refused(tally);
     tally = letters_refused(tally);

@@ -9,7 +9,7 @@ use mathlib.Core.List.{List, [], _∷_, _++_, map}
 use mathlib.Core.Path.{_≡_, refl, sym, ap, ap₂, _∙_}
 use borrow.Author.Tests.{lt-ltb, le-ltb, lt-leb}
 use lib.Dec.{ltb}
-use lib.ListN.{length, getD, set, take, drop, length-append, drop-of-length-le}
+use lib.ListN.{length, getD, set, take, drop, replicate, length-append, drop-of-length-le}
 use lib.Seq.{set-at, getD-at, append-snoc, drop-cons}
 use Rattle.letters.specs.Letter.{letterValid}
 use Rattle.letters.specs.Lists.{within, every}
@@ -17,17 +17,23 @@ use Rattle.table.specs.Limits.{mostSignals, mostRows}
 use Rattle.table.specs.Row.{rowValid, noRow}
 use Rattle.table.specs.Valid.{rowsValid}
 use Rattle.table.specs.declared.Row.{Row}
+use Rattle.table.specs.declared.Outcome.the-variants.{Accepted}
 use Rattle.step.specs.declared.Phase.{Phase}
 use Rattle.step.specs.declared.Phase.the-variants.{Waiting}
 use Rattle.step.specs.Step.{stepRow}
 use Rattle.step.specs.Tick.{tick}
+use Rattle.step.specs.declared.Events.{Events}
+use Rattle.step.specs.Events.{noEvents, rowEvents, tickEvents}
 use Rattle.step.specs.Valid.{phaseValid, isWaiting, phasesValid}
 use Rattle.watcher.specs.declared.Slot.{Slot}
 use Rattle.watcher.specs.declared.Watch.{Watch}
+use Rattle.watcher.specs.declared.Ticked.{Ticked}
 use Rattle.watcher.specs.declared.pass.Pass.{Pass}
-use Rattle.watcher.specs.Watch.{slotOf, phasesOf, watchOf}
-use Rattle.watcher.specs.Answer.{firstNumber, answered, tickAnswer}
-use Rattle.watcher.specs.inner.Pass.{phaseAt, begun, moved, rowTaken, passOver, finished}
+use Rattle.watcher.specs.Watch.{slotOf, phasesOf}
+use Rattle.watcher.specs.Answer.{firstNumber, answered, nothingHappened, refusedWith}
+use Rattle.watcher.specs.Answer.{movedOn, tickAnswer}
+use Rattle.watcher.specs.inner.Pass.{phaseAt, begun, moved, rowTaken, passOver, passed}
+use Rattle.watcher.specs.inner.Pass.{finished}
 use Rattle.watcher.proofs.Records.{slots-phases, phases-length}
 
 -- A loop's turn at row i, and its end.
@@ -50,6 +56,7 @@ taken pass i row = record {
   rules = pass .rules && rowValid (pass .signals) row;
   phases = pass .phases && phaseValid row (phaseAt (pass .watch) i);
   watch = moved (pass .watch) i row (pass .letter);
+  events = set (pass .events) i (rowEvents row (pass .letter) (phaseAt (pass .watch) i));
 }
 
 taken-low : (pass : Pass) (i : ℕ) (row : Row) → i < mostRows
@@ -88,29 +95,30 @@ rules-down (row ∷ rows) i pass h = rules-down rows (i + 1) (rowTaken pass i ro
 abbrev phasesIn : List Slot → List Phase
 phasesIn slots = map (λ (slot : Slot). slot .phase) slots
 
+-- Nothing has happened yet to the rows of these slots.
+abbrev none : List Slot → List Events
+none slots = map (λ _. noEvents) (phasesIn slots)
+
 -- What a pass has found after some rows, whose slots stand at the front of `ahead`, after those of
--- `passed`.
-record Found (rows : List Row) (pass : Pass) (passed ahead : List Slot) (done : Pass) : Type 0 where
+-- `passed`, and whose events stand after those of `before`.
+record Found (rows : List Row) (pass : Pass) (passed ahead : List Slot) (before : List Events)
+    (done : Pass) : Type 0 where
   signals : done .signals ≡ pass .signals
   letter : done .letter ≡ pass .letter
   rules : done .rules ≡ (pass .rules && every (rowValid (pass .signals)) rows)
   phases : done .phases ≡ (pass .phases && phasesValid rows (take (length rows) (phasesIn ahead)))
   slots : done .watch .slots ≡ passed ++ map slotOf (tick rows (pass .letter) (phasesIn ahead))
+  events : done .events ≡ before ++ tickEvents rows (pass .letter) (phasesIn ahead)
 
--- The state after row i is moved on, and the phase that it had.
-taken-slots : (pass : Pass) (row : Row) (passed ahead : List Slot) (slot : Slot) (i : ℕ)
-    → pass .watch .slots ≡ passed ++ slot ∷ ahead → length passed ≡ i
-    → taken pass i row .watch .slots
-    ≡ (passed ++ (slotOf (stepRow row (pass .letter) (slot .phase)) ∷ [])) ++ ahead
-unfolding taken
-taken-slots pass row passed ahead slot i e n =
-    let next : Phase → Slot = λ p. slotOf (stepRow row (pass .letter) p) in
-    ap (λ (l : List Slot). set l i (next (getD l i (slotOf Waiting) .phase))) e
-    ∙ ap (λ (s : Slot). set (passed ++ slot ∷ ahead) i (next (s .phase)))
-    (getD-at passed slot ahead (slotOf Waiting) i n)
-    ∙ set-at passed slot ahead (next (slot .phase)) i n
-    ∙ sym (append-snoc passed (next (slot .phase)) ahead)
+-- One more place of a list is filled.
+filled : {A : Type 0} (before ahead : List A) (old new : A) {list : List A} (i : ℕ)
+    → list ≡ before ++ old ∷ ahead → length before ≡ i
+    → set list i new ≡ (before ++ (new ∷ [])) ++ ahead
+filled before ahead old new i e n =
+    ap (λ (l : List _). set l i new) e ∙ set-at before old ahead new i n
+    ∙ sym (append-snoc before new ahead)
 
+-- The phase that row i has.
 taken-phase : (pass : Pass) (passed ahead : List Slot) (slot : Slot) (i : ℕ)
     → pass .watch .slots ≡ passed ++ slot ∷ ahead → length passed ≡ i
     → phaseAt (pass .watch) i ≡ slot .phase
@@ -119,25 +127,34 @@ taken-phase pass passed ahead slot i e n =
     ∙ ap (λ (s : Slot). s .phase) (getD-at passed slot ahead (slotOf Waiting) i n)
 
 pass-finds : (rows : List Row) (i : ℕ) (pass : Pass) (passed ahead : List Slot)
-    → pass .watch .slots ≡ passed ++ ahead → length passed ≡ i → i + length ahead ≡ mostRows
+    (before : List Events)
+    → pass .watch .slots ≡ passed ++ ahead → pass .events ≡ before ++ none ahead
+    → length passed ≡ i → length before ≡ i → i + length ahead ≡ mostRows
     → length rows ≤ length ahead
-    → Found rows pass passed ahead (passOver rows i pass)
-unfolding passOver tick every phasesValid taken
-pass-finds [] i pass passed ahead e n m h = record {
+    → Found rows pass passed ahead before (passOver rows i pass)
+unfolding passOver tick tickEvents every phasesValid taken
+pass-finds [] i pass passed ahead before e f n k m h = record {
   signals = refl;
   letter = refl;
   rules = sym (and-true (pass .rules));
   phases = sym (and-true (pass .phases));
   slots = e ∙ ap (λ (l : List Slot). passed ++ l) (sym (slots-phases ahead));
+  events = f;
 }
-pass-finds (row ∷ rows) i pass passed [] e n m h = absurd (omega arith)
-pass-finds (row ∷ rows) i pass passed (slot ∷ ahead) e n m h =
+pass-finds (row ∷ rows) i pass passed [] before e f n k m h = absurd (omega arith)
+pass-finds (row ∷ rows) i pass passed (slot ∷ ahead) before e f n k m h =
     let next = taken pass i row in
-    let into = passed ++ (slotOf (stepRow row (pass .letter) (slot .phase)) ∷ []) in
-    let rest = pass-finds rows (i + 1) next into ahead
-    (taken-slots pass row passed ahead slot i e n)
-    (length-append passed (slotOf (stepRow row (pass .letter) (slot .phase)) ∷ []) ∙ omega arith)
-    (omega arith) (omega arith) in
+    let was = taken-phase pass passed ahead slot i e n in
+    let moved = slotOf (stepRow row (pass .letter) (slot .phase)) in
+    let happened = rowEvents row (pass .letter) (slot .phase) in
+    let rest = pass-finds rows (i + 1) next (passed ++ (moved ∷ [])) ahead
+    (before ++ (happened ∷ []))
+    (ap (λ (p : Phase). set (pass .watch .slots) i (slotOf (stepRow row (pass .letter) p))) was
+    ∙ filled passed ahead slot moved i e n)
+    (ap (λ (p : Phase). set (pass .events) i (rowEvents row (pass .letter) p)) was
+    ∙ filled before (none ahead) noEvents happened i f k)
+    (length-append passed (moved ∷ []) ∙ omega arith)
+    (length-append before (happened ∷ []) ∙ omega arith) (omega arith) (omega arith) in
     rw (taken-low pass i row (omega arith)) (record {
       signals = rest .signals;
       letter = rest .letter;
@@ -147,10 +164,11 @@ pass-finds (row ∷ rows) i pass passed (slot ∷ ahead) e n m h =
           ∙ and-assoc (pass .phases) (phaseValid row (phaseAt (pass .watch) i))
           (phasesValid rows (take (length rows) (phasesIn ahead)))
           ∙ ap (λ (p : Phase). pass .phases &&
-          (phaseValid row p && phasesValid rows (take (length rows) (phasesIn ahead))))
-          (taken-phase pass passed ahead slot i e n);
-      slots = rest .slots ∙ append-snoc passed (slotOf (stepRow row (pass .letter) (slot .phase)))
+          (phaseValid row p && phasesValid rows (take (length rows) (phasesIn ahead)))) was;
+      slots = rest .slots ∙ append-snoc passed moved
           (map slotOf (tick rows (pass .letter) (phasesIn ahead)));
+      events = rest .events ∙ append-snoc before happened
+          (tickEvents rows (pass .letter) (phasesIn ahead));
     })
 
 -- Number 18 over all phases: those of the rows, and those beyond them.
@@ -166,21 +184,31 @@ fits-parts (row ∷ rows) (phase ∷ phases) h =
     (every isWaiting (drop (length rows) phases))))
 
 -- What `finish` makes of what a pass found.
-finish-same : (pass : Pass) (watch moved : Watch) (rules state letters : Bool) → pass .rules ≡ rules
+finish-same : (pass : Pass) (watch : Watch) (done : Ticked) (rules state letters : Bool)
+    → pass .rules ≡ rules
     → pass .phases ≡ state → letterValid (pass .signals) (pass .letter) ≡ letters
-    → pass .watch ≡ moved
-    → finished pass watch ≡ answered (firstNumber rules state letters) moved watch
+    → passed pass ≡ done
+    → finished pass watch ≡ answered (firstNumber rules state letters) done (refusedWith watch)
 unfolding finished
-finish-same pass watch moved rules state letters r p l m =
-    ap₂ (λ (n : ℕ) (w : Watch). answered n w watch)
+finish-same pass watch done rules state letters r p l m =
+    ap₂ (λ (n : ℕ) (t : Ticked). answered n t (refusedWith watch))
     (ap₂ (λ (a b : Bool). firstNumber a b (letterValid (pass .signals) (pass .letter))) r p
     ∙ ap (λ (c : Bool). firstNumber rules state c) l) m
 
 -- Under number 17 what was moved does not matter.
-rules-refused : (a b c d : Bool) (x y watch : Watch)
-    → answered (firstNumber false a b) x watch ≡ answered (firstNumber false c d) y watch
+rules-refused : (a b c d : Bool) (x y : Ticked) (watch : Watch)
+    → answered (firstNumber false a b) x (refusedWith watch)
+    ≡ answered (firstNumber false c d) y (refusedWith watch)
 unfolding answered
 rules-refused a b c d x y watch = refl
+
+-- Before the first row nothing has happened.
+nothing-yet : (slots : List Slot) → length slots ≡ mostRows → nothingHappened ≡ none slots
+nothing-yet slots e = ap (λ (k : ℕ). replicate k noEvents) (sym e) ∙ go slots
+  where
+    go : (l : List Slot) → replicate (length l) noEvents ≡ none l
+    go [] = refl
+    go (slot ∷ l) = ap (λ (m : List Events). noEvents ∷ m) (go l)
 
 module _ (s : ℕ) (rows : List Row) (watch : Watch) (letter : ℕ)
     (full : length (watch .slots) ≡ mostRows)
@@ -191,32 +219,35 @@ module _ (s : ℕ) (rows : List Row) (watch : Watch) (letter : ℕ)
     few : length rows ≤ mostRows → finished last watch ≡ tickAnswer s rows watch letter
     unfolding tickAnswer begun rowsValid
     few h =
-        let found = pass-finds rows 0 (begun s (length rows) watch letter) [] (watch .slots) refl
-        refl
+        let found = pass-finds rows 0 (begun s (length rows) watch letter) [] (watch .slots) []
+        refl (nothing-yet (watch .slots) full) refl refl
         (omega arith) (omega arith) in
-        finish-same last watch (watchOf (tick rows letter (phasesOf watch))) (rowsValid s rows)
+        finish-same last watch (movedOn rows letter watch) (rowsValid s rows)
         (phasesValid rows (phasesOf watch))
         (letterValid s letter) (found .rules)
         (found .phases ∙ and-comm (every isWaiting (drop (length rows) (phasesOf watch)))
         (phasesValid rows (take (length rows) (phasesOf watch)))
         ∙ sym (fits-parts rows (phasesOf watch) (rw phases-length (omega arith))))
         (ap₂ letterValid (found .signals) (found .letter))
-        (ap (λ (l : List Slot). record { slots = l }) (found .slots))
+        (ap₂ (λ (l : List Slot) (e : List Events). record {
+          reply = record { outcome = Accepted; events = e };
+          watch = record { slots = l };
+        }) (found .slots) (found .events))
 
     many : mostRows < length rows → finished last watch ≡ tickAnswer s rows watch letter
     unfolding tickAnswer begun rowsValid
     many h =
         let over : (within 1 mostSignals s && within 1 mostRows (length rows)) ≡ false =
         simp (lt-leb (length rows) mostRows h, and-false) in
-        finish-same last watch (last .watch) false (last .phases)
+        finish-same last watch (passed last) false (last .phases)
         (letterValid (last .signals) (last .letter))
         (rules-down rows 0 (begun s (length rows) watch letter) over) refl refl refl
         ∙ rules-refused (last .phases) (letterValid (last .signals) (last .letter))
         (phasesValid rows (phasesOf watch))
-        (letterValid s letter) (last .watch) (watchOf (tick rows letter (phasesOf watch))) watch
+        (letterValid s letter) (passed last) (movedOn rows letter watch) watch
         ∙ ap (λ (b : Bool). answered (firstNumber (b && every (rowValid s) rows)
         (phasesValid rows (phasesOf watch)) (letterValid s letter))
-        (watchOf (tick rows letter (phasesOf watch))) watch) (sym over)
+        (movedOn rows letter watch) (refusedWith watch)) (sym over)
 
     pub pass-answer : finished last watch ≡ tickAnswer s rows watch letter
     pass-answer = go (decLe (length rows) mostRows)

@@ -221,7 +221,8 @@ module _ {M : Type 1} {𝓤 : URA M} {H : Heap 𝓤} {A : Atoms 𝓤} {K : Type 
         → (g : c tt a .ghost) → ent 𝓤 (emp 𝓤) (c tt a .requires g)
         → (Φ : typeAt s tt .Denot → Type 0)
         → States 𝓤 H A (byValue ps s ks) c ((tt, tt, tt, a, vss), g) (λ r _. Φ r)
-        → Opds K W (raw (CallContract 𝓤 H A (byValue ps s ks) c .pre ((tt, tt, tt, a, vss), g)) ∷ Γ) E xs
+        → Opds K W (raw (CallContract 𝓤 H A (byValue ps s ks) c .pre ((tt, tt, tt, a, vss), g)) ∷ Γ)
+        E xs
         (CallContract 𝓤 H A (byValue ps s ks) c .args ((tt, tt, tt, a, vss), g))
         → ((v : Val) (r : typeAt s tt .Denot) → Is (typeAt s tt) r (v ∷ []) → Φ r
         → Seq K W Γ (lands C Λ E d v rest q)) → Seq K W Γ (runs C Λ E (seq (call f xs d) rest) q)
@@ -231,7 +232,8 @@ module _ {M : Type 1} {𝓤 : URA M} {H : Heap 𝓤} {A : Atoms 𝓤} {K : Type 
         (mono∗ 𝓤 (via 𝓤 (sep 𝓤 (emp 𝓤) (emp 𝓤)) (emp∗ 𝓤 (emp 𝓤))
         (monoR 𝓤 (emp 𝓤)
         (owns-make 𝓤 H A (typesAt ps tt) (Ises (typesAt ps tt)) makes a vss are))) asks)) $
-        calls-at t fm (CallContract 𝓤 H A (byValue ps s ks) c) known ((tt, tt, tt, a, vss), g) os (λ v.
+        calls-at t fm (CallContract 𝓤 H A (byValue ps s ks) c) known ((tt, tt, tt, a, vss), g) os
+        (λ v.
         given-back t tt (byValue ps s ks) c ((tt, tt, tt, a, vss), g) v Φ states
         (λ r is e. drop! t $ k v r is e))
 

@@ -1,8 +1,10 @@
 // One pass over the rows of a table: what it has found so far, by value. specs/inner/Pass.antt
 // follows this code; what is right is said in specs/Answer.antt.
+use crate::Reply;
 use crate::Slot;
 use crate::Ticked;
 use crate::Watch;
+use step::Events;
 use table::MOST_ROWS;
 use table::MOST_SIGNALS;
 use table::Outcome;
@@ -17,23 +19,26 @@ ghost use Rattle.watcher.specs.Answer.{refusedWith};
 ghost use Rattle.watcher.specs.inner.Pass.{begun, rowTaken, passOver, finished};
 
 // Whether the rows (17) and the phases (18) passed so far, and the state with the rows so far moved
-// on.
+// on, with what happened to each.
 pub(crate) struct Pass {
     pub signals: u8,
     pub letter: u8,
     pub rules: bool,
     pub phases: bool,
     pub watch: Watch,
+    pub events: [Events; MOST_ROWS],
 }
 
 // A refusal with a number and no line: the state is the one that was passed.
 pub(crate) fn refused(number: u8, watch: Watch) -> Ticked
-    ensures { λ r. ⌜ r ≡ refusedWith number watch ⌝ }
+    ensures { λ r. ⌜ r ≡ refusedWith watch number ⌝ }
 {
-    Ticked {
+    let none = step::no_events();
+    let reply = Reply {
         outcome: Outcome::Refused(Refusal { number, line: 0 }),
-        watch,
-    }
+        events: [none; MOST_ROWS],
+    };
+    Ticked { reply, watch }
 }
 
 // Whether all rows from place n on wait.
@@ -63,6 +68,7 @@ pub(crate) fn begin(signals: u8, n: usize, watch: Watch, letter: u8) -> Pass
             & letters::within(1, MOST_ROWS, n),
         phases: rest_waiting(watch, n),
         watch,
+        events: [step::no_events(); MOST_ROWS],
     }
 }
 
@@ -80,12 +86,16 @@ pub(crate) fn take_row(pass: Pass, i: usize, row: Row) -> Pass
     let next = stepped.phase;
     let mut moved = watch;
     moved.slots[i] = Slot { phase: next };
+    let happened = stepped.events;
+    let mut events = pass.events;
+    events[i] = happened;
     Pass {
         signals: pass.signals,
         letter: pass.letter,
         rules: pass.rules & table::rows::row_valid(pass.signals, row),
         phases: pass.phases & step::phase_valid(row, phase),
         watch: moved,
+        events,
     }
 }
 
@@ -110,6 +120,7 @@ pub(crate) fn finish(pass: Pass, watch: Watch) -> Ticked
     ensures { λ r. ⌜ r ≡ finished pass watch ⌝ }
 {
     let after = pass.watch;
+    let events = pass.events;
     let letter_valid = letters::letter_valid(pass.signals, pass.letter);
     if !pass.rules {
         return refused(17, watch);
@@ -120,8 +131,12 @@ pub(crate) fn finish(pass: Pass, watch: Watch) -> Ticked
     if !letter_valid {
         return refused(19, watch);
     }
-    Ticked {
+    let reply = Reply {
         outcome: Outcome::Accepted,
+        events,
+    };
+    Ticked {
+        reply,
         watch: after,
     }
 }

@@ -15,7 +15,10 @@ use Rattle.traces.specs.Trace.{run}
 use Rattle.traces.specs.inner.Judgement.{Judgement, judge}
 use Rattle.traces.specs.inner.Judgement.Judgement.{tooMany, sound, trapped}
 use Rattle.step.specs.declared.Phase.the-variants.{Waiting}
+use Rattle.step.specs.declared.Events.{Events}
 use Rattle.step.specs.Phase.{codeOf}
+use Rattle.step.specs.Step.{stepRow}
+use Rattle.step.specs.Events.{eventsOf, rowEvents}
 use Rattle.step.specs.Tick.{rowSystem, tableSystem}
 use Rattle.scratch.specs.inner.Same.{samePhases}
 use Rattle.verdict.specs.Found.{trappedFound}
@@ -115,4 +118,45 @@ starred =
     ∷ after S (3 ∷ 2 ∷ 2 ∷ []) 255
     ∷ traps report (1 ∷ []) 1 2
     ∷ traps delayed (1 ∷ []) 3 4
+    ∷ []
+
+-- Document 02, ask 1: a row, the letters that it reads from the start, one letter more, the code of
+-- its phase then, and what happened at that letter.
+pub record EventCase : Type 0 where
+  pub row : Row
+  pub letters : List ℕ
+  pub last : ℕ
+  pub code : ℕ
+  pub events : Events
+
+abbrev happened : Row → List ℕ → ℕ → ℕ → Events → EventCase
+happened row letters last code events =
+    record { row = row; letters = letters; last = last; code = code; events = events }
+
+abbrev pub EventCaseMeans : EventCase → Type 0
+EventCaseMeans case =
+    let phase = run (rowSystem 2 (case .row)) Waiting (case .letters) in
+    (codeOf (stepRow (case .row) (case .last) phase) ≡ case .code)
+    × (rowEvents (case .row) (case .last) phase ≡ case .events)
+
+-- `a,0,0,0,0,0,0,a,a,a,0,0` and `1,1,1,0,0,0,0,a,a,a,0,0`.
+abbrev dropped : Row
+dropped = timed (a ∷ never ∷ never ∷ a ∷ a ∷ a ∷ []) 0 0 0 0 0 0
+
+abbrev atOnce : Row
+atOnce = timed (always ∷ always ∷ always ∷ a ∷ a ∷ a ∷ []) 0 0 0 0 0 0
+
+-- The events in order: started, realised, aborted, action started, completed, broken.
+unfoldable pub eventCases : List EventCase
+eventCases =
+    happened P [] 1 61 (eventsOf true true false false false false)
+    ∷ happened P (1 ∷ []) 2 0 (eventsOf false false false true true false)
+    ∷ happened P (1 ∷ []) 0 255 (eventsOf false false false false false true)
+    ∷ happened P (1 ∷ 0 ∷ []) 1 255 (eventsOf false false false false false false)
+    ∷ happened Q (1 ∷ 1 ∷ 1 ∷ []) 1 0 (eventsOf false false true false false false)
+    ∷ happened Q (1 ∷ 1 ∷ []) 3 255 (eventsOf false true false false false true)
+    ∷ happened S [] 1 255 (eventsOf true true false true false true)
+    ∷ happened dropped [] 1 0 (eventsOf true false true false false false)
+    ∷ happened atOnce [] 1 0 (eventsOf true true false true true false)
+    ∷ happened atOnce (1 ∷ []) 0 255 (eventsOf true true false false false true)
     ∷ []

@@ -1,6 +1,7 @@
 -- `step::action_check` meets its contract, by how the shared check ends. Assumes nothing.
 use mathlib.Core.Path.{_≡_, sym, ap, _∙_}
 use Rattle.step.specs.Step.{actionCheck}
+use Rattle.step.specs.Events.{actionEvents, steppedTo}
 use Rattle.step.proofs.Checks.{actionEnds, action-ends}
 use borrow.Author.Needs.{needs}
 use Rattle.step.proofs.action_check.Statement.{statement}
@@ -8,7 +9,8 @@ use Rattle.step.proofs.action_check.Tie as tie
 
 -- the definition, from what the callees ensure
 checked : (c : tie.After-check-of) → let a = c .before .before .before .before .before .args in
-    actionCheck (a .t1) (a .letter) (a .a) ≡ actionEnds (c .check-of .result)
+    steppedTo (actionCheck (a .t1) (a .letter) (a .a)) (actionEvents (a .t1) (a .letter) (a .a))
+    ≡ actionEnds (c .check-of .result)
 checked c =
     action-ends _ _ _ ∙ sym (ap actionEnds
     (c .check-of .ensures ∙ simp (
@@ -20,17 +22,17 @@ checked c =
 returns : tie.Need-returns
 unfolding actionEnds
 returns c = rw (checked (c .before .before .before), c .before .enum-told .given .1)
-    (c .stepped-to .ensures)
+    (c .completes .ensures)
 
 returns-2 : tie.Need-returns-2
 unfolding actionEnds
 returns-2 c = rw (checked (c .before .before .before .before), c .before .before .n .given .1)
-    (c .stepped-to2 .ensures)
+    (c .goes-on .ensures)
 
 returns-3 : tie.Need-returns-3
 unfolding actionEnds
 returns-3 c = rw (checked (c .before .before .before), c .before .enum-told2 .given .1)
-    (c .stepped-to3 .ensures)
+    (c .breaks .ensures)
 
 pub action-check-spec : {M : Type 1} → statement M
 action-check-spec =

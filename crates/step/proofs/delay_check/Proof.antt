@@ -1,31 +1,32 @@
 -- `step::delay_check` meets its contract, by how the shared check ends. Assumes nothing.
 use mathlib.Core.Path.{_≡_, _∙_}
-use Rattle.step.specs.Step.{actionCheck, delayCheck}
-use Rattle.step.proofs.Checks.{delayEnds, delay-ends}
+use Rattle.step.specs.Step.{delayCheck}
+use Rattle.step.specs.Events.{delayEvents, steppedTo}
+use Rattle.step.proofs.Checks.{delayEnds, actionStarts, delay-ends}
 use borrow.Author.Needs.{needs}
 use Rattle.step.proofs.delay_check.Statement.{statement}
 use Rattle.step.proofs.delay_check.Tie as tie
 
 -- the definition, from what the callees ensure
 checked : (c : tie.After-check-of) → let a = c .before .before .before .args in
-    delayCheck (a .t1) (a .letter) (a .d)
-    ≡ delayEnds (actionCheck (a .t1) (a .letter) 0) (c .check-of .result)
+    steppedTo (delayCheck (a .t1) (a .letter) (a .d)) (delayEvents (a .t1) (a .letter) (a .d))
+    ≡ delayEnds (actionStarts (a .t1) (a .letter)) (c .check-of .result)
 checked c = delay-ends _ _ _ ∙ simp (c .check-of .ensures, c .before .contains .ensures)
 
 returns : tie.Need-returns
 unfolding delayEnds
 returns c = rw (checked (c .before .before .before), c .before .enum-told .given .1)
-    (c .action-check .ensures)
+    (c .action-start .ensures)
 
 returns-2 : tie.Need-returns-2
 unfolding delayEnds
 returns-2 c = rw (checked (c .before .before .before .before), c .before .before .n .given .1)
-    (c .stepped-to .ensures)
+    (c .goes-on .ensures)
 
 returns-3 : tie.Need-returns-3
 unfolding delayEnds
 returns-3 c = rw (checked (c .before .before .before), c .before .enum-told2 .given .1)
-    (c .stepped-to2 .ensures)
+    (c .breaks .ensures)
 
 pub delay-check-spec : {M : Type 1} → statement M
 delay-check-spec =

@@ -1,15 +1,16 @@
 -- `step::trigger_check` meets its contract, by how the shared check ends. Assumes nothing.
 use mathlib.Core.Path.{_≡_, _∙_}
-use Rattle.step.specs.Step.{delayCheck, triggerCheck}
-use Rattle.step.proofs.Checks.{triggerEnds, trigger-ends}
+use Rattle.step.specs.Step.{triggerCheck}
+use Rattle.step.specs.Events.{triggerEvents, steppedTo}
+use Rattle.step.proofs.Checks.{triggerEnds, delayStarts, trigger-ends}
 use borrow.Author.Needs.{needs}
 use Rattle.step.proofs.trigger_check.Statement.{statement}
 use Rattle.step.proofs.trigger_check.Tie as tie
 
 -- the definition, from what the callees ensure
 checked : (c : tie.After-check-of) → let a = c .before .before .before .before .before .args in
-    triggerCheck (a .t1) (a .letter) (a .t)
-    ≡ triggerEnds (delayCheck (a .t1) (a .letter) 0) (c .check-of .result)
+    steppedTo (triggerCheck (a .t1) (a .letter) (a .t)) (triggerEvents (a .t1) (a .letter) (a .t))
+    ≡ triggerEnds (delayStarts (a .t1) (a .letter)) (c .check-of .result)
 checked c =
     trigger-ends _ _ _ ∙ simp (
       c .check-of .ensures,
@@ -21,17 +22,17 @@ checked c =
 returns : tie.Need-returns
 unfolding triggerEnds
 returns c = rw (checked (c .before .before .before), c .before .enum-told .given .1)
-    (c .delay-check .ensures)
+    (c .delay-start .ensures)
 
 returns-2 : tie.Need-returns-2
 unfolding triggerEnds
 returns-2 c = rw (checked (c .before .before .before .before), c .before .before .n .given .1)
-    (c .stepped-to .ensures)
+    (c .goes-on .ensures)
 
 returns-3 : tie.Need-returns-3
 unfolding triggerEnds
 returns-3 c = rw (checked (c .before .before .before), c .before .enum-told2 .given .1)
-    (c .stepped-to2 .ensures)
+    (c .aborts .ensures)
 
 pub trigger-check-spec : {M : Type 1} → statement M
 trigger-check-spec =

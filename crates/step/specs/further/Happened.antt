@@ -2,10 +2,12 @@
 -- check of that phase with its elapsed ticks."
 use Prim.Native.Nat.{ℕ, _≤_}
 use mathlib.Core.Bool.{true, false, _&&_}
+use mathlib.Core.Logic.{_⊎_}
 use mathlib.Core.Path.{_≡_}
 use lib.Dec.{leb, ltb}
 use Rattle.table.specs.Row.{holds, tse, tc, tee, ase, ac, aee}
 use Rattle.table.specs.declared.Row.{Row}
+use Rattle.step.specs.declared.Events.{Events}
 use Rattle.step.specs.declared.Phase.{Phase}
 use Rattle.step.specs.declared.Phase.the-variants.{Waiting, Trigger, Delay, Action}
 
@@ -52,3 +54,8 @@ module _ (row : Row) (letter : ℕ) where
     pub checked : ActionChecked phase elapsed
     pub ends : holds row aee letter ≡ true
     pub enough : row .amin ≤ elapsed
+
+-- Exactly one of aborted and completed is marked.
+abbrev pub OneEnd : Events → Type 0
+OneEnd e =
+    ((e .aborted ≡ true) × (e .completed ≡ false)) ⊎ ((e .aborted ≡ false) × (e .completed ≡ true))

@@ -31,10 +31,9 @@ use denote.Builtin.{u8}
 use denote.Ref.{MutRef, ptr-vals, mut-tells}
 use denote.Slice.{ShrSlice, slice-vals, shr-slice-tells}
 use denote.Signature.{Slot, plain}
-use denote.Steps.{opens, closes, owned, facts, nothing, only}
+use denote.Steps.{opens, closes, facts, nothing, only}
 use denote.Struct.Steps.{spelt}
 use denote.Struct.Laws as LL
-use denote.Enum.Laws as EL
 use denote.Triple.Statement.{Contract, Triple}
 use denote.Triple.Call.{calls-at}
 use denote.Triple.Entry.{onEntry}
@@ -42,17 +41,18 @@ use denote.Triple.Spec.{Meets}
 use denote.Triple.Table.{entered, cited}
 use denote.Triple.Walked.{Stays, stay-ref, stay-dropped, walkOf, goes-ref, ends-at}
 use Rattle.table.proofs.Row as R
-use Rattle.table.proofs.Outcome as O
-use Rattle.table.proofs.Outcome.Laws as O′
 use Rattle.watcher.specs.declared.Ticked.{Ticked}
 use Rattle.watcher.proofs.Lent.{Lent, lentOf, Typed, signalsVal, letterVal, token, tickArgs}
 use Rattle.watcher.proofs.Lent.{rowsVal, rowsArgs, rowsVals, RowsOwn, stateVal, answer}
 use Rattle.watcher.proofs.Lent.{LentState, lentStateOf, stateToken, statePtr, tickVals}
-use Rattle.watcher.proofs.Walks.{CallContract, fits, holds, holds-uint, spot, copied, part-copied}
+use Rattle.watcher.proofs.Walks.{CallContract, fits, holds, holds-uint, spot, copied}
+use Rattle.watcher.proofs.Walks.{part-copied}
 use Rattle.watcher.proofs.Walks.{given-back, allots, frees-all, has, frame, falling, paired}
 use Rattle.watcher.proofs.Walks.{says-both, shown}
 use Rattle.watcher.proofs.Watch as T
 use Rattle.watcher.proofs.Watch.Laws as T′
+use Rattle.watcher.proofs.Reply as Y
+use Rattle.watcher.proofs.Reply.Laws as Y′
 use Rattle.watcher.proofs.Ticked as D
 use Rattle.watcher.proofs.Ticked.Laws as D′
 use Rattle.watcher.proofs.tick_rows as rows
@@ -73,19 +73,19 @@ abbrev stayed : Stays (here.ended .signature .params) (here.ended .kept)
 stayed =
     (stay-dropped _ _, (stay-dropped _ _, (stay-ref (1 ∷ []) tt state, (stay-dropped _ _, tt))))
 
--- The machine value of an answer's outcome; that of its state is `stateVal`.
-abbrev outcomeVal : Ticked → Val
-outcomeVal r = EL.val O.the-type O′.the-laws (r .outcome)
+-- The machine value of an answer's reply; that of its state is `stateVal`.
+abbrev replyVal : Ticked → Val
+replyVal r = LL.val Y.the-type Y′.the-laws (r .reply)
 
 -- The fields of an answer, each with its machine value.
 record Fields (r : Ticked) : Type 0 where
-  outcome : Is (O.the-row) (r .outcome) (outcomeVal r ∷ [])
+  reply : Is (Y.the-row) (r .reply) (replyVal r ∷ [])
   watch : Is (T.the-row) (r .watch) (stateVal (r .watch) ∷ [])
 
 fields : (r : Ticked) (v : Val) → Is (D.the-row) r (v ∷ []) → Fields r
 fields r v is =
     let parts = LL.owed D.the-type D′.the-laws r (v ∷ []) is in
-    record { outcome = parts .0; watch = parts .1 .0 }
+    record { reply = parts .0; watch = parts .1 .0 }
 
 module _ {M : Type 1} (𝓤 : URA M) (H : Heap 𝓤) (A : Atoms 𝓤) (at-mem : Memory → SProp 𝓤)
     (run : Routine → Fun 𝓤) where
@@ -126,18 +126,17 @@ module _ {M : Type 1} (𝓤 : URA M) (H : Heap 𝓤) (A : Atoms 𝓤) (W : Given
       ∷ ‵ (stateToken y) ∷ ‵ (token x) ∷ []
 
   -- The answer is what the contract says.
-  exits : (r : Ticked) → r ≡ answer x → Fields r → ent 𝓤 (⋆ 𝓤 H A (Ends r)) (Post (outcomeVal r))
+  exits : (r : Ticked) → r ≡ answer x → Fields r → ent 𝓤 (⋆ 𝓤 H A (Ends r)) (Post (replyVal r))
   exits r e is =
       qed W (Ends r) ∵
       suffices ! _ (ends-at 𝓤 H A here.ended stayed (here.clauses 𝓤 H A at-mem run) W bound
-      (outcomeVal r) (r .outcome) (tt, (tt, (r .watch, (tt, tt)))) (tt, (tt, (tt, (tt, tt))))) $
-      says-both ! (ap (λ (a : Ticked). a .outcome) e) (ap (λ (a : Ticked). a .watch) e) $
+      (replyVal r) (r .reply) (tt, (tt, (r .watch, (tt, tt)))) (tt, (tt, (tt, (tt, tt))))) $
+      says-both ! (ap (λ (a : Ticked). a .reply) e) (ap (λ (a : Ticked). a .watch) e) $
       nothing ! $ move ! (3 ∷ 0 ∷ []) $ join ! $ move ! (3 ∷ 0 ∷ []) $ join ! $ frame! ! $
       feqI ! (List Val) (statePtr y ∷ []) (statePtr y ∷ []) refl $ fjoin3 ! $
       nothing ! $ nothing ! $ fjoin ! $ move ! (1 ∷ 0 ∷ []) $ fjoin ! $
       nothing ! $ fjoin ! $ nothing ! $ fjoin ! $ frame! ! $
-      owned ! (O.the-row) (Is (O.the-row)) (EL.makes O.the-type O′.the-plain 𝓤 H A) (r .outcome)
-      _ (is .outcome) $ done !
+      holds ! Y.the-type Y′.the-plain (r .reply) (is .reply) $ done !
 
   -- The whole body.
   walk : (𝓣 : Tables 𝓤 H) → Triple 𝓤 (𝓣 .C #tick-rows) (Callee 𝓤 H A at-mem run) → Typed x
@@ -192,8 +191,7 @@ module _ {M : Type 1} (𝓤 : URA M) (H : Heap 𝓤) (A : Atoms 𝓤) (W : Given
       (from ! (hop ! (look ! 3 refl) (stop !)))
       (store ! 7 refl (fits W T.the-type T′.the-laws (r .watch) (fields r v is .watch) .0)) $
       assigns ! (of-opd ! (part-copied ! 5 refl (sub ! 0 refl (whole !)))) (spot !) (init ! 0 refl
-      (EL.lawful O.the-type O′.the-laws 𝓤 H A W tt .typed (r .outcome) _
-      (fields r v is .outcome) .0)) $
+      (fits W Y.the-type Y′.the-laws (r .reply) (fields r v is .reply) .0)) $
       holds ! T.the-type T′.the-plain (r .watch) (fields r v is .watch) $
       move ! (8 ∷ []) $
       use1 W (‵ (cellAt fullShare (T.the-row .mir) (stateVal (r .watch) ∷ []) (y .block)

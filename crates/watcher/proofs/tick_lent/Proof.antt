@@ -30,7 +30,6 @@ use denote.Builtin.{u8, usize}
 use denote.Array.{array-vals, array-lawful}
 use denote.Steps.{nothing, only}
 use denote.Struct.Laws as LL
-use denote.Enum.Laws as EL
 use denote.Triple.Call.{calls-at}
 use denote.Triple.Entry.{onEntry}
 use denote.Triple.Spec.{Meets}
@@ -39,8 +38,6 @@ use denote.Triple.Walked.{says, Stays, stay-dropped, walkOf, ends-at}
 use Rattle.table.specs.declared.Row.{Row}
 use Rattle.table.proofs.Row as R
 use Rattle.table.proofs.Row.Laws as R′
-use Rattle.table.proofs.Outcome as O
-use Rattle.table.proofs.Outcome.Laws as O′
 use Rattle.watcher.specs.declared.Watch.{Watch}
 use Rattle.watcher.specs.declared.Ticked.{Ticked}
 use Rattle.watcher.specs.Answer.{tickAnswer}
@@ -51,6 +48,8 @@ use Rattle.watcher.proofs.Walks.{given-lasts, both-facts, allots, has, 
 use Rattle.watcher.proofs.Walks.{falling, rising, paired, shown}
 use Rattle.watcher.proofs.Watch as T
 use Rattle.watcher.proofs.Watch.Laws as T′
+use Rattle.watcher.proofs.Reply as Y
+use Rattle.watcher.proofs.Reply.Laws as Y′
 use Rattle.watcher.proofs.Ticked as D
 use Rattle.watcher.proofs.Ticked.Laws as D′
 use Rattle.watcher.proofs.rows_lent as counted
@@ -174,10 +173,9 @@ module _ {M : Type 1} (𝓤 : URA M) (H : Heap 𝓤) (A : Atoms 𝓤) (W : Given
       mut-back W (T.the-row) (stateKind W) (a 8) w ! tt (λ isw.
       keep ! (rising 6 4 ++ (2 ∷ 10 ∷ 0 ∷ rising 19 11)) $
       -- [the locals, each at its number; that each local dies]: _13 = _8; _0 = _9 and _13
-      land ! (spot !) (init ! 9 refl
-      (EL.lawful O.the-type O′.the-laws 𝓤 H A W tt .typed r _ iso .0)) $
+      land ! (spot !) (init ! 9 refl (fits W Y.the-type Y′.the-laws r iso .0)) $
       rewrite ! 9 (has (frame a (code.function .locals)) 9)
-      (ap only (EL.tells O.the-type O′.the-laws r _ iso)) refl $
+      (ap only (LL.tells Y.the-type Y′.the-laws r _ iso)) refl $
       assigns ! (of-opd ! (copied ! 8 refl)) (spot !)
       (init ! 13 refl (fits W T.the-type T′.the-laws w isw .0)) $
       assigns ! (agg ! (and-then ! (copied ! 9 refl) (and-then ! (copied ! 13 refl) (no-more !))))
@@ -187,7 +185,7 @@ module _ {M : Type 1} (𝓤 : URA M) (H : Heap 𝓤) (A : Atoms 𝓤) (W : Given
       forget ! 3 refl $ forget ! 4 refl $ forget ! 5 refl $ forget ! 6 refl $ forget ! 7 refl $
       forget ! 8 refl $ forget ! 9 refl $ forget ! 10 refl $ forget ! 11 refl $ forget ! 12 refl $
       forget ! 13 refl $ move ! (paired 14 0 14) $ frees-all ! _ $
-      by ! (exits (ticked r w) _ ((λ i. record { outcome = said .0 i; watch = said .1 i })
+      by ! (exits (ticked r w) _ ((λ i. record { reply = said .0 i; watch = said .1 i })
       ∙ ap (λ (rows : List Row). tickAnswer (p .signals) rows (p .watch) (p .letter))
       (lent-first p fit n e)) (ticked-is r w u iso isw))))))))))))
     where

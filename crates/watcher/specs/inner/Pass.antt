@@ -11,13 +11,15 @@ use Rattle.table.specs.Row.{rowValid}
 use Rattle.table.specs.declared.Row.{Row}
 use Rattle.step.specs.declared.Phase.{Phase}
 use Rattle.step.specs.declared.Phase.the-variants.{Waiting}
+use Rattle.table.specs.declared.Outcome.the-variants.{Accepted}
 use Rattle.step.specs.Step.{stepRow}
+use Rattle.step.specs.Events.{rowEvents}
 use Rattle.step.specs.Valid.{phaseValid, isWaiting}
 use Rattle.watcher.specs.declared.Ticked.{Ticked}
 use Rattle.watcher.specs.declared.Watch.{Watch}
 use Rattle.watcher.specs.declared.pass.Pass.{Pass}
 use Rattle.watcher.specs.Watch.{slotOf, phasesOf}
-use Rattle.watcher.specs.Answer.{firstNumber, answered}
+use Rattle.watcher.specs.Answer.{firstNumber, answered, nothingHappened, refusedWith}
 
 -- The phase of row i.
 abbrev pub phaseAt : Watch → ℕ → Phase
@@ -30,6 +32,7 @@ begun s n watch letter = record {
   rules = within 1 mostSignals s && within 1 mostRows n;
   phases = every isWaiting (drop n (phasesOf watch));
   watch = watch;
+  events = nothingHappened;
 }
 
 -- Row i moved on, in the state.
@@ -45,13 +48,19 @@ rowTaken pass i row = cond (ltb i mostRows) (record {
   rules = pass .rules && rowValid (pass .signals) row;
   phases = pass .phases && phaseValid row (phaseAt (pass .watch) i);
   watch = moved (pass .watch) i row (pass .letter);
+  events = set (pass .events) i (rowEvents row (pass .letter) (phaseAt (pass .watch) i));
 }) pass
 
 unfoldable pub passOver : List Row → ℕ → Pass → Pass
 passOver [] i pass = pass
 passOver (row ∷ rows) i pass = passOver rows (i + 1) (rowTaken pass i row)
 
+-- The state of a pass, with what happened.
+abbrev pub passed : Pass → Ticked
+passed pass =
+    record { reply = record { outcome = Accepted; events = pass .events }; watch = pass .watch }
+
 unfoldable pub finished : Pass → Watch → Ticked
 finished pass watch =
     answered (firstNumber (pass .rules) (pass .phases) (letterValid (pass .signals) (pass .letter)))
-    (pass .watch) watch
+    (passed pass) (refusedWith watch)

@@ -6,15 +6,14 @@ use Rattle.test_random.proofs.tally.print.Statement.{statement}
 use Rattle.test_random.proofs.tally.print.Tie as tie
 
 abbrev Inv-loop : tie.InvT-loop
-Inv-loop text numbers n₀ n = Unit {0}
+Inv-loop t text numbers n₀ n = Unit {0}
 
 abbrev μ-loop : tie.MeasureT-loop
-μ-loop text numbers n₀ n = 23 - n
+μ-loop t text numbers n₀ n = 23 - n
 
 pub print-spec : {M : Type 1} → statement M
 print-spec =
-    tie.close (tie.spec
-    Inv-loop μ-loop
-    (λ c. search needs) (λ c. search needs) (λ c. search needs) (λ c. search needs)
-    (λ c κs. search needs) (λ c. search needs) (λ c. search needs) (λ c. search needs)
+    tie.close (tie.spec Inv-loop μ-loop (λ c. search needs) (λ c κs. search needs)
+    (λ c. search needs) (λ c. search needs) (λ c. search needs) (λ c κs. search needs)
+    (λ c. search needs) (λ c. search needs) (λ c. search needs) (λ c κs. search needs)
     (λ c. search needs))

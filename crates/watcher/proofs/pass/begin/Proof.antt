@@ -6,14 +6,17 @@ use Rattle.watcher.proofs.pass.begin.Tie as tie
 
 returns : tie.Need-returns
 unfolding begun
-returns c = rw (
-  c .rest-waiting .ensures,
-  c .before .within2 .ensures,
-  c .before .before
-      .within .ensures,
-)
+returns c =
+    let waits = c .before in
+    rw (
+      c .no-events .ensures,
+      waits .rest-waiting .ensures,
+      waits .before .within2 .ensures,
+      waits .before .before .within .ensures,
+    )
 
 pub begin-spec : {M : Type 1} → statement M
 begin-spec =
     tie.close (tie.spec
-    (λ c κs. search needs) (λ c κs. search needs) (λ c κs. search needs) returns)
+    (λ c κs. search needs) (λ c κs. search needs) (λ c κs. search needs) (λ c κs. search needs)
+    returns)

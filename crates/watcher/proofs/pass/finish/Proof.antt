@@ -10,17 +10,17 @@ use Rattle.watcher.proofs.pass.finish.Statement.{statement}
 use Rattle.watcher.proofs.pass.finish.Tie as tie
 
 -- past the tests for 17 and 18
-rules-valid : (c : tie.Else1) → c .before .before .before .before .args .pass .rules ≡ true
+rules-valid : (c : tie.Else1) → c .before .before .before .before .before .args .pass .rules ≡ true
 rules-valid c = not-false _ (c .if1 .left)
 
 phases-valid : (c : tie.Else2)
-    → c .before .before .before .before .before .before .args .pass .phases ≡ true
+    → c .before .before .before .before .before .before .before .args .pass .phases ≡ true
 phases-valid c = not-false _ (c .if2 .left)
 
 returns : tie.Need-returns
 unfolding finished answered
 returns c =
-    let fails : c .before .before .before .before .before .args .pass .rules ≡ false =
+    let fails : c .before .before .before .before .before .before .args .pass .rules ≡ false =
     not-true _ (c .before .if1 .taken) in
     rw fails (c .refused .ensures)
 
@@ -28,7 +28,7 @@ returns-2 : tie.Need-returns-2
 unfolding finished answered
 returns-2 c =
     let past = c .before .before .before in
-    let fails : past .before .before .before .before .args .pass .phases ≡ false =
+    let fails : past .before .before .before .before .before .args .pass .phases ≡ false =
     not-true _ (c .before .if2 .taken) in
     rw (rules-valid past, fails) (c .refused2 .ensures)
 

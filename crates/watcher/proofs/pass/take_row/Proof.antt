@@ -15,7 +15,7 @@ returns-2 : tie.Need-returns-2
 unfolding rowTaken
 returns-2 c =
     let judged = c .before .before .before in
-    let moved = judged .before in
+    let moved = judged .before .before .before in
     let else = moved .before .before .before in
     rw (
       lt-ltb _ mostRows (else .if1 .left),
@@ -28,4 +28,5 @@ pub take-row-spec : {M : Type 1} → statement M
 take-row-spec =
     tie.close (tie.spec
     returns (λ c. search needs) (λ c. search needs) (λ c κs. search needs) (λ c. search needs)
-    (λ c. search needs) (λ c κs. search needs) (λ c κs. search needs) returns-2)
+    (λ c. search needs) (λ c. search needs) (λ c. search needs) (λ c κs. search needs)
+    (λ c κs. search needs) returns-2)

@@ -16,7 +16,7 @@ use types.Kit.{frame as frame! }
 use denote.Steps.{nothing}
 use denote.Triple.Clauses.{Lasts}
 use denote.Triple.Statement.{Contract, Triple}
-use Rattle.table.specs.declared.Outcome.{Outcome}
+use Rattle.watcher.specs.declared.Reply.{Reply}
 use Rattle.watcher.proofs.Lent.{Lent, token, RowsOwn, answer, LentState, stateToken}
 use Rattle.watcher.proofs.Lent.{StateOwn, tickArgs, tickVals}
 use Rattle.watcher.proofs.Walks.{CallContract, holds-uint}
@@ -65,5 +65,5 @@ module _ {M : Type 1} (𝓤 : URA M) (H : Heap 𝓤) (A : Atoms 𝓤) (at-mem : 
         frame! ! $ done !
 
     -- What `tick` states: its answer, and the state that it leaves.
-    abbrev pub Answers : Outcome → Lasts tick.ended (to .0 .0) (to .0 .3) → Type 0
-    Answers r ws = (r ≡ answer x .outcome) × (ws .1 .1 .0 ≡ answer x .watch)
+    abbrev pub Answers : Reply → Lasts tick.ended (to .0 .0) (to .0 .3) → Type 0
+    Answers r ws = (r ≡ answer x .reply) × (ws .1 .1 .0 ≡ answer x .watch)

@@ -21,21 +21,20 @@ use denote.Array.{Array, arrayVal, array-vals, array-tells, array-makes}
 use denote.RattleType.{RattleType}
 use denote.Slice.{Room}
 use denote.Struct.Laws as LL
-use denote.Enum.Laws as EL
 use Rattle.table.specs.Limits.{mostRows}
 use Rattle.table.specs.declared.Row.{Row}
-use Rattle.table.specs.declared.Outcome.{Outcome}
 use Rattle.table.proofs.Row as R
 use Rattle.table.proofs.Row.Laws as R′
-use Rattle.table.proofs.Outcome as O
-use Rattle.table.proofs.Outcome.Laws as O′
 use Rattle.watcher.specs.declared.Watch.{Watch}
+use Rattle.watcher.specs.declared.Reply.{Reply}
 use Rattle.watcher.specs.declared.Ticked.{Ticked}
 use Rattle.watcher.proofs.Lent.{Lent, LentState, stateVal}
 use Rattle.watcher.proofs.Lending.{SingleValued}
 use Rattle.watcher.proofs.Walks.{made}
 use Rattle.watcher.proofs.Watch as T
 use Rattle.watcher.proofs.Watch.Laws as T′
+use Rattle.watcher.proofs.Reply as Y
+use Rattle.watcher.proofs.Reply.Laws as Y′
 use Rattle.watcher.proofs.Ticked as D
 use Rattle.watcher.proofs.Ticked.Laws as D′
 
@@ -160,12 +159,12 @@ stateLent β c δ =
     record { lifetime = β ∷ []; share = fullShare; block = c; offset = 0; ghost = δ }
 
 -- An answer of its two parts, and its machine value.
-abbrev pub ticked : Outcome → Watch → Ticked
-ticked o w = record { outcome = o; watch = w }
+abbrev pub ticked : Reply → Watch → Ticked
+ticked y w = record { reply = y; watch = w }
 
-pub ticked-is : (o : Outcome) (w : Watch) (u : Val) → Is (O.the-row) o (u ∷ [])
+pub ticked-is : (y : Reply) (w : Watch) (u : Val) → Is (Y.the-row) y (u ∷ [])
     → Is (T.the-row) w (stateVal w ∷ [])
-    → Is (D.the-row) (ticked o w) (LL.val D.the-type D′.the-laws (ticked o w) ∷ [])
-ticked-is o w u iso isw =
-    LL.owes D.the-type D′.the-laws (ticked o w)
-    (subst (Is (O.the-row) o) (EL.tells O.the-type O′.the-laws o _ iso) iso, (isw, tt))
+    → Is (D.the-row) (ticked y w) (LL.val D.the-type D′.the-laws (ticked y w) ∷ [])
+ticked-is y w u isy isw =
+    LL.owes D.the-type D′.the-laws (ticked y w)
+    (subst (Is (Y.the-row) y) (LL.tells Y.the-type Y′.the-laws y _ isy) isy, (isw, tt))

@@ -36,7 +36,8 @@ use Rattle.watcher.specs.inner.Pass.{begun, rowTaken, passOver}
 use Rattle.watcher.proofs.Passes.{pass-next}
 use Rattle.watcher.proofs.Lent.{Lent, Typed, count, signalsVal, letterVal, token, rowsVal}
 use Rattle.watcher.proofs.Lent.{RowsOwn, row, rowVal, rowBytes, rowPlace, stateVal}
-use Rattle.watcher.proofs.Walks.{CallContract, fits, made, made-uint, spot, copied, part-copied}
+use Rattle.watcher.proofs.Walks.{CallContract, fits, made, made-uint, spot, copied}
+use Rattle.watcher.proofs.Walks.{part-copied}
 use Rattle.watcher.proofs.Walks.{calls-plain, frame, has, room, deaths}
 use Rattle.watcher.proofs.pass.Pass as P
 use Rattle.watcher.proofs.pass.Pass.Laws as P′

@@ -12,6 +12,8 @@ use Rattle.table.specs.declared.Row.{Row}
 use Rattle.step.specs.declared.Phase.{Phase}
 use Rattle.step.specs.declared.Phase.the-variants.{Waiting, Trigger, Delay, Action, Broken}
 use Rattle.step.specs.declared.Events.{Events}
+use Rattle.step.specs.declared.Stepped.{Stepped}
+use Rattle.step.specs.Step.{stepRow}
 use Rattle.step.specs.Tick.{tick}
 
 abbrev pub eventsOf : Bool → Bool → Bool → Bool → Bool → Bool → Events
@@ -79,6 +81,13 @@ rowEvents row letter (Delay d) = delayEvents row letter d
 rowEvents row letter (Action a) = actionEvents row letter a
 rowEvents row letter Broken = noEvents
 
+-- All that a row step gives.
+abbrev pub steppedTo : Phase → Events → Stepped
+steppedTo phase events = record { phase = phase; events = events }
+
+abbrev pub stepped : Row → ℕ → Phase → Stepped
+stepped row letter phase = steppedTo (stepRow row letter phase) (rowEvents row letter phase)
+
 -- Each row's events at a letter. A phase without a row has none.
 unfoldable pub tickEvents : List Row → ℕ → List Phase → List Events
 tickEvents [] letter phases = map (λ _. noEvents) phases
@@ -93,9 +102,21 @@ traceEvents rows phases (l ∷ w) =
     tickEvents rows l phases ∷ traceEvents rows (tick rows l phases) w
 
 -- How often an event happens to row i in some ticks.
-unfoldable pub timesOf : (Events → Bool) → ℕ → List (List Events) → ℕ
+pub data Event : Type 0 where
+  started realised aborted acting completed broken : Event
+
+abbrev pub happens : Events → Event → Bool
+happens e Event.started = e .started
+happens e Event.realised = e .realised
+happens e Event.aborted = e .aborted
+happens e Event.acting = e .acting
+happens e Event.completed = e .completed
+happens e Event.broken = e .broken
+
+unfoldable pub timesOf : Event → ℕ → List (List Events) → ℕ
 timesOf event i [] = 0
-timesOf event i (events ∷ more) = bit (event (getD events i noEvents)) + timesOf event i more
+timesOf event i (events ∷ more) =
+    bit (happens (getD events i noEvents) event) + timesOf event i more
 
 -- "Open means in delay or action."
 unfoldable pub isOpen : Phase → Bool

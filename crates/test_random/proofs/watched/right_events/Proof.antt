@@ -1,0 +1,19 @@
+-- `test_random::watched::right_events` is safe and ends. The invariant says nothing. The measure:
+-- how many rows are left. Assumes nothing.
+use Prim.Native.Nat.{_-_}
+use borrow.Author.Needs.{needs}
+use Rattle.test_random.proofs.watched.right_events.Statement.{statement}
+use Rattle.test_random.proofs.watched.right_events.Tie as tie
+
+abbrev Inv-loop : tie.InvT-loop
+Inv-loop table taken letter codes rows numbers₀ i₀ numbers i = Unit {0}
+
+abbrev μ-loop : tie.MeasureT-loop
+μ-loop table taken letter codes rows numbers₀ i₀ numbers i = 8 - i
+
+pub right-events-spec : {M : Type 1} → statement M
+right-events-spec =
+    tie.close (tie.spec Inv-loop μ-loop (λ c. search needs) (λ c. search needs)
+    (λ c. search needs) (λ c. search needs) (λ c. search needs) (λ c κs. search needs)
+    (λ c. search needs) (λ c. search needs) (λ c. search needs) (λ c. search needs)
+    (λ c. search needs))
