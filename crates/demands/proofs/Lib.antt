@@ -2,7 +2,7 @@
 -- subject: `Reading`, `Watching`, `Happening`, `Searching`, `Reporting`, `Cases`. Below them are
 -- proofs: `WatchLaws`, `WatchCalls`; `VerdictMeaning`, `Answers`, `SearchLaws`, `Entries`,
 -- `EarliestTrap`, `SameInput`, `StateNumbers`, `ScratchLaws` and `Described` of the search;
--- `ReportLaws`; `Starred` and `WholeReport` of the worked cases.
+-- `ReportLaws` and `Reported`; `Starred`, `WholeReport` and `Instances` of the worked cases.
 pub mod Demands
 pub mod Reading
 pub mod Watching

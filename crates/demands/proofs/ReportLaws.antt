@@ -1,5 +1,6 @@
 -- What is reported of each file, by what is so of its table. Assumes nothing.
 use Prim.Native.Nat.{ℕ, suc, _<_, _≤_}
+use native.Mathlib.Nat.{lt-of-lt-of-le}
 use native.Mathlib.Omega.{arith}
 use mathlib.Core.Bool.{true}
 use mathlib.Core.List.{List, [], _∷_, _++_}
@@ -31,6 +32,7 @@ use Rattle.demands.specs.Searching.{Fit}
 use Rattle.demands.specs.inner.Answers.{ComputedAnswer}
 use Rattle.demands.specs.inner.Answers.ComputedAnswer.{is17, is20, is21, isSound, isTrapped}
 use Rattle.demands.proofs.Answers.{one-of-five, answer-is}
+use Rattle.demands.proofs.Searching.{trace-low}
 use Rattle.demands.proofs.WatchCalls.{letters-valid}
 
 module _ (bytes : List ℕ) (lent : Lent) where
@@ -100,5 +102,10 @@ pub program-room : roomOf programLent ≡ mostRoom
 unfolding roomOf
 program-room = let long = length-replicate {A = ℕ} mostRoom 0 in omega arith
 
-pub program-long : {m : ℕ} → m < roomOf programLent → m ≤ length (programLent .trace)
+program-long : {m : ℕ} → m < roomOf programLent → m ≤ length (programLent .trace)
 program-long low = rw length-replicate (omega (arith, rw program-room at low))
+
+pub program-shows : (table : Table) (n : ℕ) → Fit table programLent n → (w : List ℕ) (k : ℕ)
+    → Trapped (systemOf table) w k → length w ≤ length (programLent .trace)
+program-shows table n fit w k trapped =
+    program-long (lt-of-lt-of-le (trace-low table programLent n fit w k trapped) (fit .room))

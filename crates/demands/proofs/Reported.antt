@@ -32,7 +32,7 @@ use Rattle.demands.specs.inner.Answers.{ComputedAnswer}
 use Rattle.demands.specs.inner.Answers.ComputedAnswer.{is17, is20, is21, isSound, isTrapped}
 use Rattle.demands.proofs.Answers.{one-of-five, answer-is}
 use Rattle.demands.proofs.Described.{described, computed}
-use Rattle.demands.proofs.Reporting.{program-shows}
+use Rattle.demands.proofs.ReportLaws.{program-shows}
 
 module _ (bytes : List ℕ) (lent : Lent) where
   by-reading : Decided bytes (readAnswer bytes) → RightReport bytes lent (checkAnswer bytes lent)

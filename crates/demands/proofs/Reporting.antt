@@ -3,7 +3,6 @@ use Prim.Native.Nat.{ℕ, suc, _≤_}
 use mathlib.Core.List.{List, [], _∷_, _++_}
 use mathlib.Core.Path.{_≡_}
 use lib.ListN.{length, take}
-use native.Mathlib.Nat.{lt-of-lt-of-le}
 use Rattle.table.specs.declared.Table.{Table}
 use Rattle.traces.specs.Count.{ReachedMany}
 use Rattle.traces.specs.inner.Verdicts.{Trapped}
@@ -25,8 +24,10 @@ use Rattle.checker.specs.FileReport.{programLent, mostReport}
 use Rattle.checker.specs.inner.Computed.{checkAnswer}
 use Rattle.checker.proofs.ReportLength as ReportLength
 use Rattle.demands.specs.Searching.{EarliestDead, CanGoOn, Fit}
+use Rattle.demands.specs.further.Program.{ProgramPrints}
 use Rattle.demands.proofs.ReportLaws as Laws
-use Rattle.demands.proofs.Searching.{trapped-means, sound-means, trace-low}
+use Rattle.demands.proofs.Reported as Reported
+use Rattle.demands.proofs.Searching.{trapped-means, sound-means}
 
 -- The report. Different findings give different reports: where the bytes are the same, so are what
 -- is found, its trace and, under a verdict, the number of rows, for one number of signals. What the
@@ -93,8 +94,12 @@ program-room = Laws.program-room
 
 pub program-shows : (table : Table) (n : ℕ) → Fit table programLent n → (w : List ℕ) (k : ℕ)
     → Trapped (systemOf table) w k → length w ≤ length (programLent .trace)
-program-shows table n fit w k trapped =
-    Laws.program-long (lt-of-lt-of-le (trace-low table programLent n fit w k trapped) (fit .room))
+program-shows = Laws.program-shows
+
+-- It prints one of 1 to 16 with its line, 20, or a verdict: never 17, 18, 19 or 21, nor an answer
+-- that is none.
+pub program-prints : (bytes : List ℕ) → ProgramPrints (checkAnswer bytes programLent .report)
+program-prints = Reported.program-prints
 
 pub program-short : (bytes : List ℕ)
     → length (checkAnswer bytes programLent .report) ≤ mostReport
