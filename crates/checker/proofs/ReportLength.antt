@@ -21,6 +21,7 @@ use Rattle.reader.proofs.Valid.{file-valid}
 use Rattle.scratch.specs.Room.{mostRoom}
 use Rattle.scratch.specs.inner.Same.{samePhases}
 use Rattle.verdict.specs.declared.Found.the-variants.{Refused as FoundRefused}
+use Rattle.verdict.specs.declared.RowLists.{RowLists}
 use Rattle.verdict.specs.Found.{valuesOf, refusedFound, trappedFound}
 use Rattle.search.specs.Lent.{Lent, Searched, roomOf, systemOf, traced}
 use Rattle.search.specs.inner.Computed.{judged, searchAnswer}
@@ -32,7 +33,7 @@ use Rattle.checker.specs.inner.Computed.{afterReading, checkAnswer}
 refused-few : (rows number line : ℕ) → rows ≤ mostRows → number < 1000 → line < 1000
     → FewDigits rows mostRoom (valuesOf (FoundRefused (record { number = number; line = line })))
 refused-few rows number line r m n = record {
-  rules = omega arith;
+  rules = r;
   number = m;
   line = n;
   short = omega arith;
@@ -42,30 +43,30 @@ refused-few rows number line r m n = record {
 
 -- What the search finds has numbers of few digits, and a trace that its buffer holds.
 judged-few : (rows : ℕ) → rows ≤ mostRows → (room : ℕ) → room ≤ mostRoom → (a : Judgement)
-    → Within room a → (lent full : Lent) → length (lent .trace) ≤ mostRoom
-    → FewDigits rows mostRoom (valuesOf (judged a lent full .found))
+    → Within room a → (lists : RowLists) (lent full : Lent) → length (lent .trace) ≤ mostRoom
+    → FewDigits rows mostRoom (valuesOf (judged a lists lent full .found))
 unfolding judged
-judged-few rows r room h tooMany w lent full short =
+judged-few rows r room h tooMany w lists lent full short =
     refused-few rows 20 0 r (omega arith) (omega arith)
-judged-few rows r room h (sound n) w lent full short = record {
-  rules = omega arith;
+judged-few rows r room h (sound n) w lists lent full short = record {
+  rules = r;
   number = omega arith;
   line = omega arith;
   short = omega arith;
   lost = omega arith;
   count = omega arith;
 }
-judged-few rows r room h (trapped n t k) w lent full short =
+judged-few rows r room h (trapped n t k) w lists lent full short =
     go (leb (length t) (length (lent .trace))) refl
   where
     go : (c : Bool) → leb (length t) (length (lent .trace)) ≡ c
         → FewDigits rows mostRoom (valuesOf (cond {A = Searched} c
-        (record { found = trappedFound n t k; lent = traced t full })
+        (record { found = trappedFound n lists t k; lent = traced t full })
         (record { found = refusedFound 21; lent = full }) .found))
     go true e =
         let fits = leb-true (length t) (length (lent .trace)) e in
         record {
-          rules = omega arith;
+          rules = r;
           number = omega arith;
           line = omega arith;
           short = omega arith;
@@ -80,7 +81,7 @@ module _ (table : Table) (lent : Lent) (short : length (lent .trace) ≤ mostRoo
   unfolding searchAnswer
   searched-few fits =
       rw fits (judged-few (table .count) (tableValid-count table fits .1) (roomOf lent)
-      (room-most lent) _ (judge-within (systemOf table) (roomOf lent) samePhases) lent _ short)
+      (room-most lent) _ (judge-within (systemOf table) (roomOf lent) samePhases) _ lent _ short)
 
   accepted-short : tableValid table ≡ true
       → length (afterReading Accepted table lent .report) ≤ mostReport

@@ -22,7 +22,7 @@ use Rattle.verdict.specs.Found.{refusedFound, trappedFound}
 use Rattle.search.specs.Lent.{Lent, Searched, roomOf, systemOf, traced}
 use Rattle.search.specs.inner.Computed.{judged, searchAnswer}
 use Rattle.demands.specs.Searching.{Fit}
-use Rattle.demands.specs.inner.Answers.{withEntries, ComputedAnswer}
+use Rattle.demands.specs.inner.Answers.{withEntries, listsIn, ComputedAnswer}
 use Rattle.demands.specs.inner.Answers.ComputedAnswer.{is17, is20, is21, isSound, isTrapped}
 
 module _ (table : Table) where
@@ -36,7 +36,7 @@ module _ (table : Table) (lent : Lent) where
   -- Each call has one of the five answers.
   judged-answered : tableValid table ≡ true → (r : Judgement)
       → RightJudgement (systemOf table) (roomOf lent) r
-      → ComputedAnswer table lent (judged r lent (withEntries table lent))
+      → ComputedAnswer table lent (judged r (listsIn table lent) lent (withEntries table lent))
   unfolding judged
   judged-answered p r (tooMany-right m) = is20 p m
   judged-answered p r (sound-right c h s) = isSound (record { passes = p; count = c; room = h }) s
@@ -48,7 +48,10 @@ module _ (table : Table) (lent : Lent) where
 
       go : Dec (length w ≤ length (lent .trace))
           → ComputedAnswer table lent (cond (leb (length w) (length (lent .trace)))
-          (record { found = trappedFound n w k; lent = traced w (withEntries table lent) })
+          (record {
+            found = trappedFound n (listsIn table lent) w k;
+            lent = traced w (withEntries table lent);
+          })
           (record { found = refusedFound 21; lent = withEntries table lent }))
       go (yes d) = rw (le-leb (length w) (length (lent .trace)) d) (isTrapped fit t d)
       go (no d) = rw (lt-leb (length w) (length (lent .trace)) (omega arith))
@@ -59,7 +62,8 @@ module _ (table : Table) (lent : Lent) where
   one-of-five = go (tableValid table) refl
     where
       go : (b : Bool) → tableValid table ≡ b → ComputedAnswer table lent (cond b
-          (judged (judge (systemOf table) samePhases (roomOf lent)) lent (withEntries table lent))
+          (judged (judge (systemOf table) samePhases (roomOf lent)) (listsIn table lent) lent
+          (withEntries table lent))
           (record { found = refusedFound 17; lent = lent }))
       go true p = judged-answered p _
           (judge-right (systemOf table) (roomOf lent) (system-lawful table) samePhases
@@ -69,7 +73,8 @@ module _ (table : Table) (lent : Lent) where
   -- And no other: what one of them says fixes all of the answer.
   pub right-judged : tableValid table ≡ true → (r : Judgement)
       → RightJudgement (systemOf table) (roomOf lent) r
-      → searchAnswer table lent ≡ judged r lent (withEntries table lent)
+      → searchAnswer table lent
+      ≡ judged r (listsIn table lent) lent (withEntries table lent)
   unfolding searchAnswer
   right-judged p r t = rw (
     p,

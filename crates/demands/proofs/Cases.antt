@@ -12,7 +12,8 @@ use Rattle.search.specs.Lent.{Lent, roomOf, cleared}
 use Rattle.search.specs.inner.Computed.{searchAnswer}
 use Rattle.checker.specs.inner.Computed.{checkAnswer}
 use Rattle.demands.specs.examples.Cases.{P as rowP, Q as rowQ, S as rowS, report, delayed}
-use Rattle.demands.specs.examples.Cases.{isRight}
+use Rattle.demands.specs.examples.Cases.{isRight, noRows}
+use Rattle.demands.specs.examples.Cases.{ListCaseMeans, listCases}
 use Rattle.demands.specs.examples.Cases.{starred, CaseMeans, EventCaseMeans, eventCases}
 use Rattle.demands.specs.examples.Texts.{textP, textNotC, textQ, textS, textDelayed}
 use Rattle.demands.specs.examples.Texts.{fileOf, ReadAs}
@@ -30,9 +31,12 @@ starred-right = Starred.starred-right
 pub starred-means : (i : ℕ) → i < length starred → CaseMeans (getD starred i (after rowP [] 0))
 starred-means = Starred.starred-means
 
--- The cases of document 02, ask 1.
+-- The cases of document 02, ask 1, and tables with their rows that never fire (ask 2).
 pub events-worked : All EventCaseMeans eventCases
 events-worked = Starred.events-worked
+
+pub lists-worked : All ListCaseMeans listCases
+lists-worked = Starred.lists-worked
 
 -- Their rows are those that the reader makes of the texts; and "A whole report" is, to the byte,
 -- what is reported of its input, in all lent memory that holds two states and a letter.
@@ -51,7 +55,7 @@ whole-report = WholeReport.whole-report
 module _ (lent : Lent) where
   pub alone-sound : 2 ≤ roomOf lent
       → (held : Lent) × Entered Instances.alone 2 lent held
-      × (searchAnswer Instances.alone lent ≡ record { found = soundFound 2; lent = held })
+      × (searchAnswer Instances.alone lent ≡ record { found = soundFound 2 noRows; lent = held })
   alone-sound = Instances.alone-sound lent
 
   pub alone-many : roomOf lent ≡ 1

@@ -7,9 +7,9 @@ use Prim.Native.Nat.{ℕ, suc, _<_, _≤_}
 use mathlib.Core.Bool.{true}
 use mathlib.Core.List.{List}
 use mathlib.Core.Logic.{_⊎_, _↔_}
-use mathlib.Core.Path.{_≡_, ap}
+use mathlib.Core.Path.{_≡_, ap, _∙_}
 use lib.ListN.{length, getD, take}
-use Rattle.letters.specs.Letter.{letters}
+use Rattle.letters.specs.Letter.{letters, bitAt}
 use Rattle.table.specs.Limits.{mostBytes, mostRows}
 use Rattle.table.specs.Row.{noRow}
 use Rattle.table.specs.Valid.{tableValid, rowsValid, rowsOf}
@@ -19,6 +19,7 @@ use Rattle.traces.specs.Trace.{AllBelow, run}
 use Rattle.traces.specs.Count.{ReachedMany}
 use Rattle.step.specs.declared.Phase.the-variants.{Waiting}
 use Rattle.step.specs.Tick.{rowSystem}
+use Rattle.step.specs.Fires.{Fires}
 use Rattle.step.specs.Events.{noEvents, rowEvents, Event, timesOf}
 use Rattle.step.specs.Valid.{phasesValid}
 use Rattle.watcher.specs.declared.Watch.{Watch}
@@ -32,11 +33,13 @@ use Rattle.reader.specs.inner.File.{readAnswer}
 use Rattle.reader.specs.declared.Reading.{Reading as FileReading}
 use Rattle.reader.proofs.Found as ReadingFound
 use Rattle.reader.proofs.Only as ReadingOnly
+use Rattle.verdict.specs.declared.RowLists.{RowLists}
 use Rattle.verdict.specs.Found.{Verdict, valuesOf, soundFound, trappedFound}
 use Rattle.search.specs.Lent.{Lent, Searched, roomOf, systemOf, traced}
 use Rattle.search.specs.inner.Computed.{searchAnswer}
 use Rattle.demands.specs.Watching.{recordAfter, eventsOver, CallValid}
 use Rattle.demands.specs.Searching.{searchValues, Dead, EarliestDead, CanGoOn, Fit}
+use Rattle.demands.specs.Searching.{RightLists}
 use Rattle.demands.specs.Searching.{Entered, RightAnswer, SameLengths, SameScratch}
 use Rattle.demands.specs.Reporting.{RightReport}
 use Rattle.checker.specs.FileReport.{FileReport}
@@ -142,23 +145,35 @@ module _ (table : Table) (lent : Lent) (n : ℕ) (fit : Fit table lent n) where
   -- larger. Both verdicts give the count of the states reached."
   pub earliest-shown : (w : List ℕ) (k : ℕ) → EarliestDead (systemOf table) w k
       → length w ≤ length (lent .trace)
+      → (lists : RowLists) → RightLists (table .signals) (rowsOf table) lists
       → (held : Lent) × Entered table n lent held
-      × (searchAnswer table lent ≡ record { found = trappedFound n w k; lent = traced w held })
-  earliest-shown w k shown short = (
+      × (searchAnswer table lent
+      ≡ record { found = trappedFound n lists w k; lent = traced w held })
+  earliest-shown w k shown short lists right = (
     _,
     Described.entries-entered table lent n fit,
     Searching.trapped-answer table lent n fit w k
-        (Searching.trapped-means (systemOf table) w k .1 shown) short,
+        (Searching.trapped-means (systemOf table) w k .1 shown) short
+        ∙ rw (Described.lists-are table lent n lists fit right),
   )
 
   pub sound-counted : CanGoOn (systemOf table)
+      → (lists : RowLists) → RightLists (table .signals) (rowsOf table) lists
       → (held : Lent) × Entered table n lent held
-      × (searchAnswer table lent ≡ record { found = soundFound n; lent = held })
-  sound-counted on = (
+      × (searchAnswer table lent ≡ record { found = soundFound n lists; lent = held })
+  sound-counted on lists right = (
     _,
     Described.entries-entered table lent n fit,
-    Searching.sound-answer table lent n fit (Searching.sound-means (systemOf table) .1 on),
+    Searching.sound-answer table lent n fit (Searching.sound-means (systemOf table) .1 on)
+        ∙ rw (Described.lists-are table lent n lists fit right),
   )
+
+  -- Document 02, ask 2: "each row whose trigger is realised in no unbroken trace, and no other,
+  -- from the states reached", with every verdict.
+  pub never-exactly : searchValues table lent .number ≡ 0 → (i : ℕ)
+      → (bitAt (searchValues table lent .never) i ≡ true)
+      ↔ ((i < length (rowsOf table)) × (Fires (table .signals) (rowsOf table) i → ⊥))
+  never-exactly = SearchLaws.never-exactly table lent n fit
 
   -- "A trapped table is refused instead exactly when that trace is longer than its buffer."
   pub buffer-exactly : (w : List ℕ) (k : ℕ) → EarliestDead (systemOf table) w k

@@ -17,8 +17,8 @@ use Rattle.letters.specs.Lists.{ZeroFrom}
 use Rattle.traces.specs.inner.Numbers.{LostNumbers}
 use Rattle.traces.proofs.Doomed.{lives-not-doomed}
 use Rattle.traces.proofs.Back.{trace-zero}
-use Rattle.traces.proofs.Count.{count-unique, fits-or-not}
-use Rattle.traces.proofs.Explore.{explore-finished, explore-more, explore-count}
+use Rattle.traces.proofs.Count.{count-unique}
+use Rattle.traces.proofs.Explore.{explore-finished, explore-fits, explore-count}
 use Rattle.traces.proofs.Explored.{entry-leads, entry-step, entry-order, entry-earliest}
 use Rattle.traces.proofs.Explored.{reached-entry, entries-closed}
 use Rattle.traces.proofs.LostNumbers.{losts-computed}
@@ -55,15 +55,9 @@ entriesIn table lent = listed (systemOf table) (entriesWithin (roomOf lent) tabl
 
 module _ (table : Table) (lent : Lent) (n : ℕ) (fit : Fit table lent n) where
   -- All reached states are entered, n of them.
-  few : entriesIn table lent .count ≤ roomOf lent
-  few = go (decLt (roomOf lent) (entriesIn table lent .count))
-    where
-      go : Dec (roomOf lent < entriesIn table lent .count)
-          → entriesIn table lent .count ≤ roomOf lent
-      go (yes d) = absurd (fits-or-not (systemOf table) n (roomOf lent) (fit .count) (fit .room)
-          (explore-more (systemOf table) samePhases (phases-differ table) (system-lawful table)
-          (roomOf lent) d))
-      go (no d) = omega arith
+  pub few : entriesIn table lent .count ≤ roomOf lent
+  few = explore-fits (systemOf table) samePhases (phases-differ table) (system-lawful table) n
+      (roomOf lent) (fit .count) (fit .room)
 
   all-finished : Finished (systemOf table) (entriesIn table lent)
   all-finished = explore-finished (systemOf table) samePhases (phases-differ table)

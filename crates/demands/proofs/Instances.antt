@@ -4,14 +4,16 @@ use Prim.Native.Nat.{ℕ, _≤_}
 use native.Mathlib.Omega.{arith}
 use mathlib.Core.Bool.{true, false}
 use mathlib.Core.List.{List, [], _∷_}
-use mathlib.Core.Path.{_≡_, refl}
+use mathlib.Core.Path.{_≡_, refl, _∙_}
+use lib.Dec.{lit≤}
 use lib.ListN.{length}
 use Rattle.letters.specs.Letter.{bitAt, setOf}
 use Rattle.letters.specs.Lists.{some}
-use Rattle.table.specs.Valid.{rowsValid, tableValid}
+use Rattle.table.specs.Valid.{rowsValid, tableValid, rowsOf}
 use Rattle.table.specs.declared.Row.{Row}
 use Rattle.table.specs.declared.Table.{Table}
 use Rattle.traces.specs.inner.Explore.{has, enter, visit, explore}
+use Rattle.traces.specs.inner.Passing.{someBelow, somePasses}
 use Rattle.traces.specs.inner.Least.{passBelow, breaksIn, lostWithin}
 use Rattle.traces.specs.inner.Judgement.{Judgement, RightJudgement, verdictFrom, judge}
 use Rattle.traces.specs.inner.Judgement.Judgement.{tooMany, sound, trapped}
@@ -20,6 +22,8 @@ use Rattle.traces.proofs.Judgement.{judge-right}
 use Rattle.step.specs.Phase.{isBroken}
 use Rattle.step.specs.Step.{actionCheck, delayCheck, triggerCheck, stepRow}
 use Rattle.step.specs.Tick.{tick, tableSystem}
+use Rattle.step.specs.Events.{actionEvents, delayEvents, triggerEvents, rowEvents, tickEvents}
+use Rattle.step.specs.inner.Firing.{firesAt}
 use Rattle.step.proofs.Systems.{table-lawful}
 use Rattle.scratch.specs.inner.Same.{kindOf, elapsed, samePhase, samePhases}
 use Rattle.scratch.proofs.Same.{phases-decided}
@@ -28,15 +32,16 @@ use Rattle.reader.proofs.Accepted.{accepted-file}
 use Rattle.reader.proofs.Valid.{file-valid}
 use Rattle.verdict.specs.Found.{refusedFound, soundFound}
 use Rattle.search.specs.Lent.{Lent, roomOf, systemOf, cleared}
-use Rattle.search.specs.inner.Computed.{searchAnswer}
-use Rattle.demands.specs.examples.Cases.{P, report}
+use Rattle.search.specs.inner.Computed.{neverWithin, searchAnswer}
+use Rattle.demands.specs.examples.Cases.{P, report, noRows}
 use Rattle.demands.specs.examples.Texts.{textP, textNotC, tableOf, ReadAs}
-use Rattle.demands.specs.Searching.{Fit, Entered}
-use Rattle.demands.specs.inner.Answers.{withEntries}
+use Rattle.demands.specs.Searching.{Fit, RightLists, Entered}
+use Rattle.demands.specs.inner.Answers.{withEntries, listsIn}
 use Rattle.demands.specs.inner.Answers.ComputedAnswer.{is17, is20, is21, isSound}
 use Rattle.demands.proofs.Answers.{answer-is}
-use Rattle.demands.proofs.Described.{entries-entered}
-use Rattle.demands.proofs.Starred.{report-right}
+use Rattle.demands.proofs.Described.{entries-entered, lists-right}
+use Rattle.demands.proofs.NeverFires.{lists-only}
+use Rattle.demands.proofs.Starred.{computed-right, report-right}
 use Rattle.demands.proofs.WholeReport.{boards-read}
 
 -- What is computed of some rows is right of them.
@@ -57,6 +62,12 @@ unfolding judge verdictFrom lostWithin breaksIn passBelow explore visit enter ha
     isBroken
 alone-crowded = refl
 
+alone-right : RightLists 2 (P ∷ []) noRows
+unfolding explore visit enter has samePhases samePhase kindOf elapsed tick stepRow triggerCheck
+    delayCheck actionCheck bitAt setOf some isBroken neverWithin somePasses someBelow firesAt
+    tickEvents rowEvents triggerEvents delayEvents actionEvents
+alone-right = computed-right (P ∷ []) 2 0 (lit≤ tt) refl
+
 -- P alone, as the reader gives it.
 abbrev pub alone : Table
 alone = tableOf (textP ∷ [])
@@ -71,12 +82,12 @@ module _ (lent : Lent) where
   -- "P alone: sound, two states";
   pub alone-sound : 2 ≤ roomOf lent
       → (held : Lent) × Entered alone 2 lent held
-      × (searchAnswer alone lent ≡ record { found = soundFound 2; lent = held })
+      × (searchAnswer alone lent ≡ record { found = soundFound 2 noRows; lent = held })
   alone-sound room = go (rw alone-answers at (right-of (P ∷ []) 2))
     where
       go : RightJudgement (tableSystem 2 (P ∷ [])) 2 (sound 2)
           → (held : Lent) × Entered alone 2 lent held
-          × (searchAnswer alone lent ≡ record { found = soundFound 2; lent = held })
+          × (searchAnswer alone lent ≡ record { found = soundFound 2 noRows; lent = held })
       go (sound-right c low s) =
           let fit : Fit alone lent 2 = record {
             passes = passes;
@@ -85,7 +96,10 @@ module _ (lent : Lent) where
           } in (
             withEntries alone lent,
             entries-entered alone lent 2 fit,
-            answer-is alone lent (isSound fit (rw (read .signals, read .rows-are) s)),
+            answer-is alone lent (isSound fit (rw (read .signals, read .rows-are) s))
+                ∙ rw (lists-only (alone .signals) (rowsOf alone) (listsIn alone lent) noRows
+                (lists-right alone lent 2 fit)
+                (rw (read .signals, read .rows-are) alone-right)),
           )
 
   -- "room 1 is refused with 20".

@@ -1,8 +1,9 @@
 -- Read `Demands` and the specs: nothing else has to be believed. What is promised besides stands by
 -- subject: `Reading`, `Watching`, `Happening`, `Searching`, `Reporting`, `Cases`. Below them are
 -- proofs: `WatchLaws`, `WatchCalls`; `VerdictMeaning`, `Answers`, `SearchLaws`, `Entries`,
--- `EarliestTrap`, `SameInput`, `StateNumbers`, `ScratchLaws` and `Described` of the search;
--- `ReportLaws` and `Reported`; `Starred`, `WholeReport` and `Instances` of the worked cases.
+-- `EarliestTrap`, `SameInput`, `StateNumbers`, `ScratchLaws`, `NeverFires` and `Described` of the
+-- search; `ReportLaws` and `Reported`; `Starred`, `WholeReport` and `Instances` of the worked
+-- cases.
 pub mod Demands
 pub mod Reading
 pub mod Watching
@@ -20,6 +21,7 @@ pub mod EarliestTrap
 pub mod SameInput
 pub mod StateNumbers
 pub mod ScratchLaws
+pub mod NeverFires
 pub mod Described
 pub mod ReportLaws
 pub mod Reported

@@ -1,12 +1,14 @@
 -- What is reported of each file, by what is so of its table. Assumes nothing.
-use Prim.Native.Nat.{ℕ, suc, _<_, _≤_}
+use Prim.Native.Nat.{ℕ, suc, _<_, _≤_, _^_}
 use native.Mathlib.Nat.{lt-of-lt-of-le}
 use native.Mathlib.Omega.{arith}
 use mathlib.Core.Bool.{true}
-use mathlib.Core.List.{List, [], _∷_, _++_}
+use mathlib.Core.List.{List, [], _∷_, _++_, append-assoc}
 use mathlib.Core.Path.{_≡_, refl}
-use lib.ListN.{length, length-replicate}
+use lib.ListN.{length, length-replicate, length-take}
+use lib.Pow.{pow-pos, pow-mono}
 use Rattle.letters.specs.Lists.{every}
+use Rattle.table.specs.Valid.{rowsOf}
 use Rattle.table.specs.declared.Table.{Table}
 use Rattle.traces.specs.Count.{ReachedMany}
 use Rattle.traces.specs.inner.Verdicts.{Trapped, Sound}
@@ -19,19 +21,23 @@ use Rattle.reader.proofs.Accepted.{file-accepted}
 use Rattle.reader.proofs.Valid.{file-valid}
 use Rattle.scratch.specs.Room.{mostRoom}
 use Rattle.verdict.specs.declared.Found.{Found}
-use Rattle.verdict.specs.Found.{valuesOf}
+use Rattle.verdict.specs.declared.RowLists.{RowLists}
+use Rattle.verdict.specs.Found.{valuesOf, refusedFound}
 use Rattle.verdict.proofs.Buffer.{written-front, written-length}
 use Rattle.search.specs.Lent.{Lent, Searched, roomOf, systemOf}
 use Rattle.search.specs.inner.Computed.{searchAnswer}
 use Rattle.report.specs.Report.{heading, refusedLine, sizeLines, soundLine, trappedLine, tickLines}
-use Rattle.report.specs.Report.{lostLine, reportLines}
+use Rattle.report.specs.Report.{lostLine, listLines, reportLines}
 use Rattle.report.specs.further.Trace.{TraceInBuffer}
+use Rattle.report.specs.further.Lists.{ListedRows}
 use Rattle.checker.specs.FileReport.{programLent}
 use Rattle.checker.specs.inner.Computed.{checkAnswer}
-use Rattle.demands.specs.Searching.{Fit}
-use Rattle.demands.specs.inner.Answers.{ComputedAnswer}
+use Rattle.demands.specs.Searching.{Fit, RightLists}
+use Rattle.demands.specs.inner.Answers.{listsIn, ComputedAnswer}
 use Rattle.demands.specs.inner.Answers.ComputedAnswer.{is17, is20, is21, isSound, isTrapped}
 use Rattle.demands.proofs.Answers.{one-of-five, answer-is}
+use Rattle.demands.proofs.Described.{lists-right, lists-are}
+use Rattle.demands.proofs.NeverFires.{lists-low}
 use Rattle.demands.proofs.Searching.{trace-low}
 use Rattle.demands.proofs.WatchCalls.{letters-valid}
 
@@ -54,25 +60,34 @@ module _ (bytes : List ℕ) (lent : Lent) where
         let answer = answer-is table lent (is20 (file-valid bytes table file) many) in
         rw (file-accepted bytes table file, answer)
 
-    module _ (n : ℕ) (fit : Fit table lent n) where
+    module _ (n : ℕ) (fit : Fit table lent n) (lists : RowLists)
+        (right : RightLists (table .signals) (rowsOf table) lists) where
       pub sound-report : Sound (systemOf table)
           → checkAnswer bytes lent .report
-          ≡ ended (heading ∷ sizeLines (table .count) n ++ soundLine ∷ [])
+          ≡ ended (heading ∷ sizeLines (table .count) n
+          ++ soundLine ∷ listLines (table .count) lists)
       unfolding checkAnswer reportLines
       sound-report sound =
-          rw (file-accepted bytes table file, answer-is table lent (isSound fit sound))
+          rw (
+            file-accepted bytes table file,
+            answer-is table lent (isSound fit sound),
+            lists-are table lent n lists fit right,
+          )
 
       pub trapped-report : (w : List ℕ) (k : ℕ) → Trapped (systemOf table) w k
           → length w ≤ length (lent .trace)
           → checkAnswer bytes lent .report
           ≡ ended (heading ∷ sizeLines (table .count) n ++ trappedLine
-          ∷ tickLines (table .signals) 1 w ++ lostLine k ∷ [])
+          ∷ tickLines (table .signals) 1 w ++ lostLine k ∷ listLines (table .count) lists)
       unfolding checkAnswer reportLines
       trapped-report w k trapped short =
           rw (
             file-accepted bytes table file,
             answer-is table lent (isTrapped fit trapped short),
             written-front w (lent .trace) short,
+            lists-are table lent n lists fit right,
+            append-assoc (tickLines (table .signals) 1 w) (lostLine k ∷ [])
+                (listLines (table .count) (listsIn table lent)),
           )
 
 -- What is found without a trace is in every buffer.
@@ -96,6 +111,27 @@ searched-in-buffer table lent = go (one-of-five table lent)
       whole = rw (written-length w (lent .trace) short) short;
       letters = rw (written-front w (lent .trace) short) (letters-valid _ w (t .fine .letters));
     }
+
+-- What the search lists are rows of the table.
+pub searched-listed : (table : Table) (lent : Lent)
+    → ListedRows (table .count) (searchAnswer table lent .found)
+searched-listed table lent = go (one-of-five table lent)
+  where
+    none : (number : ℕ) → ListedRows (table .count) (refusedFound number)
+    none number = record { never = pow-pos (table .count) }
+
+    some : (n : ℕ) → Fit table lent n → listsIn table lent .never < 2 ^ table .count
+    some n fit =
+        let few : length (rowsOf table) ≤ table .count = rw length-take (omega arith) in
+        lt-of-lt-of-le (lists-low (table .signals) (rowsOf table) (listsIn table lent)
+        (lists-right table lent n fit)) (pow-mono few)
+
+    go : {a : Searched} → ComputedAnswer table lent a → ListedRows (table .count) (a .found)
+    go (is17 p) = none 17
+    go (is20 p m) = none 20
+    go (is21 f t long) = none 21
+    go (isSound {n = n} f s) = record { never = some n f }
+    go (isTrapped {n = n} f t short) = record { never = some n f }
 
 -- What the program lends.
 pub program-room : roomOf programLent ≡ mostRoom

@@ -5,7 +5,7 @@ use native.Mathlib.Decide.{decLe}
 use native.Mathlib.Nat.{lt-irrefl, lt-of-lt-of-le}
 use native.Mathlib.Omega.{arith}
 use mathlib.Core.Bool.{true≢false}
-use mathlib.Core.List.{List}
+use mathlib.Core.List.{List, [], _∷_, append-assoc}
 use mathlib.Core.Path.{_≡_, sym, ap, subst, _∙_}
 use lib.ListN.{length, take}
 use lib.Seq.{length-take-le, take-all}
@@ -20,7 +20,7 @@ use Rattle.reader.proofs.Found.{read-answered}
 use Rattle.reader.proofs.Only.{read-only}
 use Rattle.verdict.proofs.Buffer.{written-front}
 use Rattle.search.specs.Lent.{Lent, Searched}
-use Rattle.report.specs.Report.{reportLines, reportBytes}
+use Rattle.report.specs.Report.{tickLines, lostLine, listLines, reportLines, reportBytes}
 use Rattle.checker.specs.FileReport.{FileReport, programLent}
 use Rattle.checker.specs.inner.Computed.{checkAnswer}
 use Rattle.demands.specs.Reporting.{RightReport}
@@ -28,7 +28,7 @@ use Rattle.demands.specs.further.Program.{ProgramPrints}
 use Rattle.demands.specs.Reporting.RightReport.{refused, searched}
 use Rattle.demands.specs.further.Program.ProgramPrints.{refused as refusal, many, sound}
 use Rattle.demands.specs.further.Program.ProgramPrints.{trapped}
-use Rattle.demands.specs.inner.Answers.{ComputedAnswer}
+use Rattle.demands.specs.inner.Answers.{listsIn, ComputedAnswer}
 use Rattle.demands.specs.inner.Answers.ComputedAnswer.{is17, is20, is21, isSound, isTrapped}
 use Rattle.demands.proofs.Answers.{one-of-five, answer-is}
 use Rattle.demands.proofs.Described.{described, computed}
@@ -61,9 +61,13 @@ module _ (bytes : List ℕ) where
   by-answer table file (is20 p m) = many
   by-answer table file (is21 {k = k} {w = w} f t l) =
       absurd (lt-irrefl _ (lt-of-lt-of-le l (program-shows table _ f w k t)))
-  by-answer table file (isSound f s) = sound _ _
-  by-answer table file (isTrapped {w = w} f t l) =
-      rw (written-front w (programLent .trace) l) (trapped _ _ _ w _)
+  by-answer table file (isSound f s) = sound _ _ _
+  by-answer table file (isTrapped {k = k} {w = w} f t l) =
+      rw (
+        written-front w (programLent .trace) l,
+        append-assoc (tickLines (table .signals) 1 w) (lostLine k ∷ [])
+            (listLines (table .count) (listsIn table programLent)),
+      ) (trapped _ _ _ w _ _)
 
   by-file : Decided bytes (readAnswer bytes)
       → ProgramPrints (checkAnswer bytes programLent .report)

@@ -14,9 +14,11 @@ use Rattle.verdict.proofs.Buffer.{written-front}
 use Rattle.search.specs.Lent.{Lent, Searched, roomOf, systemOf, cleared, traced}
 use Rattle.search.specs.inner.Computed.{searchAnswer}
 use Rattle.demands.specs.Searching.{Fit, SameLengths, SameScratch, searchValues}
-use Rattle.demands.specs.inner.Answers.{withEntries, ComputedAnswer}
+use Rattle.demands.specs.inner.Answers.{withEntries, listsIn, ComputedAnswer}
 use Rattle.demands.specs.inner.Answers.ComputedAnswer.{is17, is20, is21, isSound, isTrapped}
 use Rattle.demands.proofs.Answers.{one-of-five, answer-is}
+use Rattle.demands.proofs.Described.{lists-right}
+use Rattle.demands.proofs.NeverFires.{lists-only}
 use Rattle.demands.proofs.SearchLaws.{fit-cases}
 
 -- Lent memory of the same lengths: the answers differ at most in what 17 leaves, and in the trace
@@ -65,9 +67,11 @@ module _ (table : Table) (one other : Lent) (lengths : SameLengths one other) wh
   other-answer (is20 p m) = same-answer (is20 p (rw same-room at m)) refl (λ q. same-cleared)
   other-answer (is21 f t l) =
       same-answer (is21 (same-fit f) t (omega (arith, lengths .trace))) refl (λ q. same-entries)
-  other-answer (isSound f s) = same-answer (isSound (same-fit f) s) refl (λ q. same-entries)
+  other-answer (isSound f s) =
+      same-answer (isSound (same-fit f) s) (rw same-room) (λ q. same-entries)
   other-answer (isTrapped f t l) =
-      same-answer (isTrapped (same-fit f) t (omega (arith, lengths .trace))) refl (λ q. record {
+      same-answer (isTrapped (same-fit f) t (omega (arith, lengths .trace))) (rw same-room)
+      (λ q. record {
         states = same-entries .states;
         predecessors = same-entries .predecessors;
         letters = same-entries .letters;
@@ -100,19 +104,28 @@ module _ (one other : Table) (lent held : Lent) (n : ℕ) (fit : Fit one lent n)
     room = room;
   }
 
+  same-lists : listsIn one lent ≡ listsIn other held
+  same-lists =
+      lists-only (one .signals) (rowsOf one) (listsIn one lent) (listsIn other held)
+      (lists-right one lent n fit) (rw (signals, rows) (lists-right other held n other-fit))
+
   sound-choice : Sound (systemOf one)
-      → SameChoice (record { found = soundFound n; lent = withEntries one lent })
+      → SameChoice
+      (record { found = soundFound n (listsIn one lent); lent = withEntries one lent })
   sound-choice s =
       let same = answer-is other held (isSound other-fit (rw (signals, rows) at s)) in
-      record { found = rw same; front = refl }
+      record { found = rw (same, same-lists); front = refl }
 
   trapped-choice : (w : List ℕ) (k : ℕ) → Trapped (systemOf one) w k
-      → SameChoice (record { found = trappedFound n w k; lent = traced w (withEntries one lent) })
+      → SameChoice (record {
+        found = trappedFound n (listsIn one lent) w k;
+        lent = traced w (withEntries one lent);
+      })
   trapped-choice w k t =
       let fits = short w k t in
       let same = answer-is other held (isTrapped other-fit (rw (signals, rows) at t) (fits .1)) in
       record {
-        found = rw same;
+        found = rw (same, same-lists);
         front = rw same (written-front w (lent .trace) (fits .0)
             ∙ sym (written-front w (held .trace) (fits .1)));
       }

@@ -7,22 +7,25 @@ use mathlib.Core.Logic.{_⊎_, _↔_}
 use mathlib.Core.Logic._⊎_.{inl, inr}
 use mathlib.Core.Path.{_≡_, refl, sym, ap, _∙_}
 use lib.ListN.{length}
+use Rattle.letters.specs.Letter.{bitAt}
 use Rattle.table.specs.Valid.{tableValid, rowsOf}
 use Rattle.table.specs.declared.Table.{Table}
 use Rattle.traces.specs.Count.{ReachedMany}
 use Rattle.traces.specs.inner.Verdicts.{Trapped, Sound}
 use Rattle.traces.proofs.Count.{count-unique, fits-or-not}
 use Rattle.traces.proofs.Verdict.{trapped-unique, sound-not-doomed}
+use Rattle.step.specs.Fires.{Fires}
 use Rattle.verdict.specs.Found.{Verdict, Values, valuesOf}
 use Rattle.verdict.specs.Found.{refusedFound, soundFound, trappedFound}
 use Rattle.search.specs.further.Bound.{mostStates}
 use Rattle.search.specs.Lent.{Lent, Searched, roomOf, systemOf, traced}
 use Rattle.search.specs.inner.Computed.{searchAnswer}
 use Rattle.search.proofs.Bound.{count-bounded}
-use Rattle.demands.specs.Searching.{Dead, Fit, SameScratch, searchValues}
-use Rattle.demands.specs.inner.Answers.{withEntries, ComputedAnswer}
+use Rattle.demands.specs.Searching.{Dead, Fit, RightLists, SameScratch, searchValues}
+use Rattle.demands.specs.inner.Answers.{withEntries, listsIn, ComputedAnswer}
 use Rattle.demands.specs.inner.Answers.ComputedAnswer.{is17, is20, is21, isSound, isTrapped}
 use Rattle.demands.proofs.Answers.{one-of-five, answer-is}
+use Rattle.demands.proofs.Described.{lists-right}
 use Rattle.demands.proofs.VerdictMeaning.{dead-doomed, trapped-earliest}
 
 -- Two verdicts are not the same.
@@ -43,6 +46,7 @@ module _ (table : Table) (lent : Lent) where
   pub record Said (values : Values) : Type 0 where
     pub line : values .line ≡ 0
     pub most : values .count ≤ mostStates (rowsOf table)
+    pub none : (number : ℕ) → values .number ≡ suc number → values .never ≡ 0
     pub by-17 : values .number ≡ 17 → tableValid table ≡ false
     pub by-20 : values .number ≡ 20 → ReachedMany (systemOf table) (suc (roomOf lent))
     pub by-21 : values .number ≡ 21 → LongTrace
@@ -55,6 +59,7 @@ module _ (table : Table) (lent : Lent) where
   refused-says number invalid many long = record {
     line = refl;
     most = omega arith;
+    none = λ k e. refl;
     by-17 = invalid;
     by-20 = many;
     by-21 = long;
@@ -75,6 +80,7 @@ module _ (table : Table) (lent : Lent) where
   answer-says (isSound f s) = record {
     line = refl;
     most = fit-most _ f;
+    none = λ k e. absurd (omega arith);
     by-17 = λ e. absurd (omega arith);
     by-20 = λ e. absurd (omega arith);
     by-21 = λ e. absurd (omega arith);
@@ -84,6 +90,7 @@ module _ (table : Table) (lent : Lent) where
   answer-says (isTrapped {k = k} {w = w} f t l) = record {
     line = refl;
     most = fit-most _ f;
+    none = λ k e. absurd (omega arith);
     by-17 = λ e. absurd (omega arith);
     by-20 = λ e. absurd (omega arith);
     by-21 = λ e. absurd (omega arith);
@@ -110,13 +117,16 @@ module _ (table : Table) (lent : Lent) where
 -- States that fit, n of them.
 module _ (table : Table) (lent : Lent) (n : ℕ) (fit : Fit table lent n) where
   pub sound-answer : Sound (systemOf table)
-      → searchAnswer table lent ≡ record { found = soundFound n; lent = withEntries table lent }
+      → searchAnswer table lent
+      ≡ record { found = soundFound n (listsIn table lent); lent = withEntries table lent }
   sound-answer s = answer-is table lent (isSound fit s)
 
   pub trapped-answer : (w : List ℕ) (k : ℕ) → Trapped (systemOf table) w k
       → length w ≤ length (lent .trace)
-      → searchAnswer table lent
-      ≡ record { found = trappedFound n w k; lent = traced w (withEntries table lent) }
+      → searchAnswer table lent ≡ record {
+        found = trappedFound n (listsIn table lent) w k;
+        lent = traced w (withEntries table lent);
+      }
   trapped-answer w k t l = answer-is table lent (isTrapped fit t l)
 
   pub refused-answer : (w : List ℕ) (k : ℕ) → Trapped (systemOf table) w k
@@ -129,9 +139,12 @@ module _ (table : Table) (lent : Lent) (n : ℕ) (fit : Fit table lent n) where
       → ((w : List ℕ) (k : ℕ) → Trapped (systemOf table) w k → length (lent .trace) < length w
       → Goal (record { found = refusedFound 21; lent = withEntries table lent }))
       → (Sound (systemOf table)
-      → Goal (record { found = soundFound n; lent = withEntries table lent }))
+      → Goal (record { found = soundFound n (listsIn table lent); lent = withEntries table lent }))
       → ((w : List ℕ) (k : ℕ) → Trapped (systemOf table) w k → length w ≤ length (lent .trace)
-      → Goal (record { found = trappedFound n w k; lent = traced w (withEntries table lent) }))
+      → Goal (record {
+        found = trappedFound n (listsIn table lent) w k;
+        lent = traced w (withEntries table lent);
+      }))
       → Goal (searchAnswer table lent)
   fit-cases Goal long sound short = go (one-of-five table lent)
     where
@@ -145,6 +158,18 @@ module _ (table : Table) (lent : Lent) (n : ℕ) (fit : Fit table lent n) where
       go (is21 {k = k} {w = w} f t l) = long w k t l
       go (isSound {n = m} f s) = rw (← same-count m f) (sound s)
       go (isTrapped {n = m} {k = k} {w = w} f t l) = rw (← same-count m f) (short w k t l)
+
+  -- Under a verdict the listed rows are those that never fire.
+  pub never-exactly : searchValues table lent .number ≡ 0 → (i : ℕ)
+      → (bitAt (searchValues table lent .never) i ≡ true)
+      ↔ ((i < length (rowsOf table)) × (Fires (table .signals) (rowsOf table) i → ⊥))
+  never-exactly = fit-cases (λ a. valuesOf (a .found) .number ≡ 0 → (i : ℕ)
+      → (bitAt (valuesOf (a .found) .never) i ≡ true)
+      ↔ ((i < length (rowsOf table)) × (Fires (table .signals) (rowsOf table) i → ⊥)))
+      (λ w k t l e. absurd (omega arith)) (λ s e. right .never) (λ w k t l e. right .never)
+    where
+      right : RightLists (table .signals) (rowsOf table) (listsIn table lent)
+      right = lists-right table lent n fit
 
   -- Trapped, or refused for its trace, exactly when some unbroken trace is dead.
   pub trapped-exactly : (

@@ -23,7 +23,7 @@ use Rattle.search.specs.further.Bound.{mostStates}
 use Rattle.demands.specs.Searching.{Dead, EarliestDead, CanGoOn, Fit, SameLengths}
 use Rattle.demands.specs.Searching.{SameScratch, ScratchHeld, searchValues}
 use Rattle.demands.specs.further.Doomed.{EarliestDoomed}
-use Rattle.demands.specs.inner.Answers.{withEntries}
+use Rattle.demands.specs.inner.Answers.{withEntries, listsIn}
 use Rattle.demands.specs.inner.Answers.ComputedAnswer.{is17, is20}
 use Rattle.demands.proofs.Answers.{answer-is}
 use Rattle.demands.proofs.VerdictMeaning as Meaning
@@ -37,6 +37,11 @@ module _ (table : Table) (lent : Lent) where
   -- "A refusal gives number and line: .. else 0." Every list keeps its length.
   pub search-line : searchValues table lent .line ≡ 0
   search-line = Laws.search-says table lent .line
+
+  -- "A refused search gives no list."
+  pub refused-unlisted : (number : ℕ) → searchValues table lent .number ≡ suc number
+      → searchValues table lent .never ≡ 0
+  refused-unlisted = Laws.search-says table lent .none
 
   pub search-lengths : SameLengths lent (searchAnswer table lent .lent)
   search-lengths = Entries.lengths-kept table lent
@@ -111,7 +116,8 @@ module _ (table : Table) (lent : Lent) (n : ℕ) (fit : Fit table lent n) where
   says-sound = Laws.search-says table lent .by-sound
 
   pub sound-answer : Sound (systemOf table)
-      → searchAnswer table lent ≡ record { found = soundFound n; lent = withEntries table lent }
+      → searchAnswer table lent
+      ≡ record { found = soundFound n (listsIn table lent); lent = withEntries table lent }
   sound-answer = Laws.sound-answer table lent n fit
 
   -- Trapped, and 21: there is a trap, and its trace fits the buffer or does not. The whole answer
@@ -142,8 +148,10 @@ module _ (table : Table) (lent : Lent) (n : ℕ) (fit : Fit table lent n) where
   module _ (w : List ℕ) (k : ℕ) (trapped : Trapped (systemOf table) w k) where
     -- "The trace buffer holds it from the front, the rest unchanged."
     pub trapped-answer : length w ≤ length (lent .trace)
-        → searchAnswer table lent
-        ≡ record { found = trappedFound n w k; lent = traced w (withEntries table lent) }
+        → searchAnswer table lent ≡ record {
+          found = trappedFound n (listsIn table lent) w k;
+          lent = traced w (withEntries table lent);
+        }
     trapped-answer = Laws.trapped-answer table lent n fit w k trapped
 
     pub shown-exactly : (searchValues table lent .verdict ≡ Verdict.saysTrapped)

@@ -5,7 +5,7 @@ use mathlib.Core.Bool.{true, false≢true, _&&_}
 use mathlib.Core.List.{List, [], _∷_}
 use mathlib.Core.Path.{_≡_, refl, _∙_}
 use borrow.Author.Tests.{eqb-true, le-leb}
-use lib.Dec.{eqb}
+use lib.Dec.{eqb, lit≤}
 use lib.ListN.{length, getD}
 use Rattle.letters.specs.Letter.{bitAt, setOf}
 use Rattle.letters.specs.Lists.{every, some, sameBytes}
@@ -19,34 +19,57 @@ use Rattle.traces.specs.System.{System}
 use Rattle.traces.specs.Trace.{run}
 use Rattle.traces.specs.inner.Entries.{back, traceOf}
 use Rattle.traces.specs.inner.Explore.{has, enter, visit, explore}
+use Rattle.traces.specs.inner.Passing.{someBelow, somePasses}
 use Rattle.traces.specs.inner.Least.{passBelow, breaksIn, lostWithin}
 use Rattle.traces.specs.inner.Judgement.{Judgement, RightJudgement, verdictFrom, judge}
 use Rattle.traces.specs.inner.Judgement.Judgement.{tooMany, sound, trapped}
 use Rattle.traces.specs.inner.Judgement.RightJudgement.{trapped-right}
+use Rattle.traces.proofs.Explore.{explore-fits}
 use Rattle.traces.proofs.Judgement.{judge-right}
 use Rattle.step.specs.Phase.{codeOf, isBroken}
 use Rattle.step.specs.Step.{actionCheck, delayCheck, triggerCheck, stepRow}
 use Rattle.step.specs.Events.{actionEvents, delayEvents, triggerEvents, rowEvents}
+use Rattle.step.specs.Events.{tickEvents}
+use Rattle.step.specs.inner.Firing.{firesAt}
 use Rattle.step.specs.Tick.{tick, tableSystem}
 use Rattle.step.proofs.Systems.{table-lawful}
 use Rattle.scratch.specs.inner.Same.{kindOf, elapsed, samePhase, samePhases}
 use Rattle.verdict.specs.Found.{trappedFound}
 use Rattle.search.specs.Lent.{Lent, roomOf, systemOf, traced}
-use Rattle.search.specs.inner.Computed.{judged, searchAnswer}
+use Rattle.search.specs.inner.Computed.{neverWithin, judged, searchAnswer}
 use Rattle.scratch.proofs.Same.{phases-decided}
 use Rattle.demands.specs.examples.Cases.{P, Case, CaseMeans, trappedWith, isRight, starred}
 use Rattle.demands.specs.examples.Cases.{report, delayed, EventCaseMeans, eventCases}
+use Rattle.demands.specs.examples.Cases.{noRows, ListCaseMeans, listCases}
 use Rattle.demands.specs.examples.Cases.Case.{after, traps}
-use Rattle.demands.specs.inner.Answers.{withEntries}
-use Rattle.demands.specs.Searching.{Fit}
+use Rattle.demands.specs.inner.Answers.{withEntries, listsIn}
+use Rattle.demands.specs.Searching.{Fit, RightLists}
 use Rattle.demands.proofs.Answers.{right-judged}
-use Rattle.demands.proofs.Described.{entries-entered}
+use Rattle.demands.proofs.Described.{entries-entered, lists-right}
+use Rattle.demands.proofs.NeverFires.{never-right, lists-only}
 
 pub starred-right : every isRight starred ≡ true
 unfolding every isRight starred run codeOf stepRow triggerCheck delayCheck actionCheck bitAt setOf
     trappedWith judge verdictFrom lostWithin breaksIn passBelow traceOf back explore visit enter
-    has samePhases samePhase kindOf elapsed tick some isBroken sameBytes
+    has samePhases samePhase kindOf elapsed tick some isBroken sameBytes neverWithin somePasses
+    someBelow firesAt tickEvents rowEvents triggerEvents delayEvents actionEvents
 starred-right = refl
+
+-- What is computed with enough room is right; and so the lists of the cases of ask 2.
+pub computed-right : (rows : List Row) (room never : ℕ)
+    → length (explore (tableSystem 2 rows) samePhases room) ≤ room
+    → neverWithin room 2 rows ≡ never → RightLists 2 rows (record { never = never })
+computed-right rows room never few is = rw is at (never-right 2 rows room few)
+
+pub lists-worked : All ListCaseMeans listCases
+unfolding listCases run codeOf stepRow triggerCheck delayCheck actionCheck bitAt setOf explore visit
+    enter has samePhases samePhase kindOf elapsed tick some isBroken neverWithin somePasses
+    someBelow firesAt tickEvents rowEvents triggerEvents delayEvents actionEvents
+lists-worked =
+    and (computed-right _ 8 _ (lit≤ tt) refl) (and (computed-right _ 8 _ (lit≤ tt) refl)
+    (and (computed-right _ 8 _ (lit≤ tt) refl) (and (computed-right _ 8 _ (lit≤ tt) refl)
+    (and (computed-right _ 8 _ (lit≤ tt) refl) (and (computed-right _ 8 _ (lit≤ tt) refl)
+    none)))))
 
 -- What happened in the cases of ask 1.
 pub events-worked : All EventCaseMeans eventCases
@@ -74,13 +97,41 @@ trapped-room : (X : System) (room other : ℕ) (w : List ℕ) (k n : ℕ) → n 
     → RightJudgement X room (trapped n w k) → RightJudgement X other (trapped n w k)
 trapped-room X room other w k n h (trapped-right c q t) = trapped-right c h t
 
+-- The two parts of the test.
+table-traps : (rows : List Row) (w : List ℕ) (k n : ℕ) → isRight (traps rows w k n) ≡ true
+    → trappedWith w k n (judge (tableSystem 2 rows) samePhases 8) ≡ true
+unfolding isRight
+table-traps rows w k n h =
+    and-left (trappedWith w k n (judge (tableSystem 2 rows) samePhases 8)) _ h
+
+table-never : (rows : List Row) (w : List ℕ) (k n : ℕ) → isRight (traps rows w k n) ≡ true
+    → neverWithin 8 2 rows ≡ 0
+unfolding isRight
+table-never rows w k n h = eqb-true (neverWithin 8 2 rows) 0
+    (and-right (trappedWith w k n (judge (tableSystem 2 rows) samePhases 8)) _ h)
+
+at-eight : (rows : List Row) (w : List ℕ) (k n : ℕ) → isRight (traps rows w k n) ≡ true
+    → RightJudgement (tableSystem 2 rows) 8 (trapped n w k)
+at-eight rows w k n h =
+    let X = tableSystem 2 rows in
+    rw (trapped-is w k n (judge X samePhases 8) (table-traps rows w k n h)) at
+    (judge-right X 8 (table-lawful 2 rows) samePhases (phases-decided 2 rows))
+
+few-at-eight : (rows : List Row) (w : List ℕ) (k n : ℕ) → isRight (traps rows w k n) ≡ true
+    → length (explore (tableSystem 2 rows) samePhases 8) ≤ 8
+few-at-eight rows w k n h = go (at-eight rows w k n h)
+  where
+    go : RightJudgement (tableSystem 2 rows) 8 (trapped n w k)
+        → length (explore (tableSystem 2 rows) samePhases 8) ≤ 8
+    go (trapped-right c low t) =
+        explore-fits (tableSystem 2 rows) samePhases (phases-decided 2 rows) (table-lawful 2 rows) n
+        8 c low
+
 table-right : (rows : List Row) (w : List ℕ) (k n : ℕ) → isRight (traps rows w k n) ≡ true
     → (room : ℕ) → n ≤ room → RightJudgement (tableSystem 2 rows) room (trapped n w k)
-unfolding isRight
 table-right rows w k n h room fits =
     let X = tableSystem 2 rows in
-    trapped-room X 8 room w k n fits (rw (trapped-is w k n (judge X samePhases 8) h) at
-    (judge-right X 8 (table-lawful 2 rows) samePhases (phases-decided 2 rows)))
+    trapped-room X 8 room w k n fits (at-eight rows w k n h)
 
 -- The whole answer, with the scratch computed.
 module _ (rows : List Row) (w : List ℕ) (k n : ℕ) (h : isRight (traps rows w k n) ≡ true)
@@ -95,12 +146,18 @@ module _ (rows : List Row) (w : List ℕ) (k n : ℕ) (h : isRight (traps rows w
       go : RightJudgement (systemOf table) (roomOf lent) (trapped n w k) → Fit table lent n
       go (trapped-right c low t) = record { passes = passes; count = c; room = low }
 
+  lists-are : listsIn table lent ≡ noRows
+  lists-are =
+      lists-only (table .signals) (rowsOf table) (listsIn table lent) noRows
+      (lists-right table lent n fit) (rw (signals, is)
+      (computed-right rows 8 0 (few-at-eight rows w k n h) (table-never rows w k n h)))
+
   table-is : length w ≤ length (lent .trace)
       → searchAnswer table lent
-      ≡ record { found = trappedFound n w k; lent = traced w (withEntries table lent) }
+      ≡ record { found = trappedFound n noRows w k; lent = traced w (withEntries table lent) }
   unfolding judged
   table-is short = right-judged table lent passes (trapped n w k) rightly
-      ∙ rw (le-leb (length w) (length (lent .trace)) short)
+      ∙ rw (le-leb (length w) (length (lent .trace)) short, lists-are)
 
 table-means : (rows : List Row) (w : List ℕ) (k n : ℕ) → isRight (traps rows w k n) ≡ true
     → CaseMeans (traps rows w k n)
@@ -131,7 +188,7 @@ module _ (table : Table) (lent : Lent) (passes : tableValid table ≡ true)
     (signals : table .signals ≡ 2) (short : 1 ≤ length (lent .trace)) where
   pub report-trapped : rowsOf table ≡ report → 2 ≤ roomOf lent
       → searchAnswer table lent ≡ record {
-        found = trappedFound 2 (1 ∷ []) 1;
+        found = trappedFound 2 noRows (1 ∷ []) 1;
         lent = traced (1 ∷ []) (withEntries table lent);
       }
   unfolding starred
@@ -143,7 +200,7 @@ module _ (table : Table) (lent : Lent) (passes : tableValid table ≡ true)
   -- "One row `a,a,a,0,0,0,3,0,0,0,0,0`: trapped, trace 1, lost 3, four states."
   pub delayed-trapped : rowsOf table ≡ delayed → 4 ≤ roomOf lent
       → searchAnswer table lent ≡ record {
-        found = trappedFound 4 (1 ∷ []) 3;
+        found = trappedFound 4 noRows (1 ∷ []) 3;
         lent = traced (1 ∷ []) (withEntries table lent);
       }
   unfolding starred

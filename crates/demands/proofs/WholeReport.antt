@@ -22,7 +22,8 @@ use Rattle.reader.proofs.Accepted.{accepted-file}
 use Rattle.reader.proofs.Valid.{file-valid}
 use Rattle.verdict.proofs.Buffer.{written-front}
 use Rattle.search.specs.Lent.{Lent, roomOf}
-use Rattle.report.specs.Report.{signalValues, tickLines, reportLines}
+use Rattle.report.specs.Report.{signalValues, tickLines, rowNumbers, spacedOrDash}
+use Rattle.report.specs.Report.{reportLines}
 use Rattle.checker.specs.inner.Computed.{checkAnswer}
 use Rattle.demands.specs.examples.Cases.{P, Q, S, report, delayed}
 use Rattle.demands.specs.examples.Texts.{textP, textNotC, textQ, textS, textDelayed, fileOf}
@@ -46,7 +47,8 @@ boards-read = (
 
 pub whole-report : (lent : Lent) → 2 ≤ roomOf lent → 1 ≤ length (lent .trace)
     → checkAnswer (fileOf (textP ∷ textNotC ∷ [])) lent .report ≡ wholeOutput
-unfolding checkAnswer reportLines tickLines signalValues decimal digits bitAt
+unfolding checkAnswer reportLines tickLines signalValues decimal digits bitAt rowNumbers
+    spacedOrDash
 whole-report lent room short =
     let file = boards-read .4 in
     let table = tableOf (textP ∷ textNotC ∷ []) in

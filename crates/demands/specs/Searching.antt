@@ -2,20 +2,24 @@
 use Prim.Native.Nat.{ℕ, suc, _≤_, _<_}
 use mathlib.Core.Bool.{true, false}
 use mathlib.Core.List.{List, [], _∷_, _++_}
-use mathlib.Core.Logic.{_⊎_}
+use mathlib.Core.Logic.{_⊎_, _↔_}
 use mathlib.Core.Path.{_≡_}
 use lib.ListN.{length, getD}
 use Rattle.table.specs.Valid.{tableValid, rowsOf}
+use Rattle.table.specs.declared.Row.{Row}
 use Rattle.table.specs.declared.Table.{Table}
 use Rattle.traces.specs.System.{System}
 use Rattle.traces.specs.Trace.{AllBelow, run, Unbroken, Reached}
 use Rattle.traces.specs.Order.{Earlier, NotAfter}
 use Rattle.traces.specs.Doomed.{Doomed, Lost}
 use Rattle.traces.specs.Count.{ReachedMany, ReachedCount}
+use Rattle.letters.specs.Letter.{bitAt}
 use Rattle.letters.specs.Lists.{ZeroFrom}
 use Rattle.step.specs.declared.Phase.{Phase}
 use Rattle.step.specs.Tick.{startPhases}
+use Rattle.step.specs.Fires.{Fires}
 use Rattle.successors.specs.State.{packed}
+use Rattle.verdict.specs.declared.RowLists.{RowLists}
 use Rattle.verdict.specs.Found.{Values, valuesOf, refusedFound, soundFound, trappedFound}
 use Rattle.search.specs.Lent.{Lent, Searched, roomOf, systemOf, cleared, traced}
 use Rattle.search.specs.inner.Computed.{searchAnswer}
@@ -51,6 +55,12 @@ pub record Fit (table : Table) (lent : Lent) (n : ℕ) : Type 0 where
   pub passes : tableValid table ≡ true
   pub count : ReachedCount (systemOf table) n
   pub room : n ≤ roomOf lent
+
+-- Document 02, ask 2: "List, in file order, each row whose trigger is realised in no unbroken
+-- trace, and no other": bit i of the set is row i + 1.
+pub record RightLists (s : ℕ) (rows : List Row) (lists : RowLists) : Type 0 where
+  pub never : (i : ℕ) → (bitAt (lists .never) i ≡ true)
+      ↔ ((i < length rows) × (Fires s rows i → ⊥))
 
 -- Lent memory of the same size, whatever it holds.
 pub record SameLengths (one other : Lent) : Type 0 where
@@ -124,10 +134,10 @@ pub data RightAnswer (table : Table) (lent : Lent) : Searched → Type 0 where
       → EarliestDead (systemOf table) w k
       → length (lent .trace) < length w → Entered table n lent held
       → RightAnswer table lent (record { found = refusedFound 21; lent = held })
-  isSound : {n : ℕ} {held : Lent} → Fit table lent n → CanGoOn (systemOf table)
-      → Entered table n lent held
-      → RightAnswer table lent (record { found = soundFound n; lent = held })
-  isTrapped : {n k : ℕ} {w : List ℕ} {held : Lent} → Fit table lent n
+  isSound : {n : ℕ} {lists : RowLists} {held : Lent} → Fit table lent n → CanGoOn (systemOf table)
+      → RightLists (table .signals) (rowsOf table) lists → Entered table n lent held
+      → RightAnswer table lent (record { found = soundFound n lists; lent = held })
+  isTrapped : {n k : ℕ} {w : List ℕ} {lists : RowLists} {held : Lent} → Fit table lent n
       → EarliestDead (systemOf table) w k → length w ≤ length (lent .trace)
-      → Entered table n lent held
-      → RightAnswer table lent (record { found = trappedFound n w k; lent = traced w held })
+      → RightLists (table .signals) (rowsOf table) lists → Entered table n lent held
+      → RightAnswer table lent (record { found = trappedFound n lists w k; lent = traced w held })

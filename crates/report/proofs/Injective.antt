@@ -1,8 +1,8 @@
 -- Different findings give different reports: where the bytes are the same, so are the lines, and
--- with them what is found, its trace and the number of rows. Assumes nothing.
-use Prim.Native.Nat.{ℕ, zero, suc, _+_, _<_, _≤_}
+-- with them what is found, its lists of rows, its trace and the number of rows. Assumes nothing.
+use Prim.Native.Nat.{ℕ, zero, suc, _+_, _^_, _<_, _≤_}
 use borrow.Author.Tests.{ltb-true, ne-eqb}
-use native.Mathlib.Decide.{decLt}
+use native.Mathlib.Nat.{zero-add}
 use native.Mathlib.Omega.{arith}
 use mathlib.Core.Bool.{true}
 use mathlib.Core.List.{List, [], _∷_, _++_, append-assoc, append-cancel-left}
@@ -26,14 +26,17 @@ use Rattle.text.proofs.Joins.{lines-ended}
 use Rattle.text.proofs.Splits.{count-append, append-injective}
 use Rattle.verdict.specs.declared.Found.{Found}
 use Rattle.verdict.specs.declared.Found.the-variants.{Refused, Sound, Trapped}
+use Rattle.verdict.specs.declared.RowLists.{RowLists}
 use Rattle.verdict.specs.declared.Summary.{Summary}
 use Rattle.verdict.specs.declared.Trap.{Trap}
 use Rattle.verdict.specs.Found.{Verdict, valuesOf}
 use Rattle.report.specs.Report.{soundLine, lostLine}
 use Rattle.report.specs.Report.{refusedLine, sizeLines, signalValues}
-use Rattle.report.specs.Report.{trappedLine, tickLine, tickLines, trapLines}
-use Rattle.report.specs.Report.{reportLines, reportBytes}
+use Rattle.report.specs.Report.{trappedLine, tickLine, tickLines, trapLines, rowNumbers}
+use Rattle.report.specs.Report.{listLines, reportLines, reportBytes}
+use Rattle.report.specs.further.Lists.{ListedRows}
 use Rattle.report.specs.further.Trace.{TraceInBuffer}
+use Rattle.report.proofs.Listing.{or-dash-free, row-line-injective}
 
 -- No line has an LF in it.
 numbered-free : (word : List ℕ) (n : ℕ) → count LF word ≡ 0 → count LF (word ++ decimal n) ≡ 0
@@ -59,6 +62,10 @@ values-free zero k letter = refl
 values-free (suc n) k letter =
     rw (ne-eqb (48 + bit (signalOn letter k)) LF (λ e. omega arith)) (values-free n (suc k) letter)
 
+lists-free : (rows : ℕ) (lists : RowLists) → Free LF (listLines rows lists)
+unfolding count
+lists-free rows lists = and (or-dash-free (rowNumbers rows 0 (lists .never))) none
+
 module _ (signals : ℕ) where
   tick-free : (tick letter : ℕ) → count LF (tickLine signals tick letter) ≡ 0
   unfolding count
@@ -78,12 +85,17 @@ module _ (signals : ℕ) where
   unfolding reportLines count
   report-free rows buffer (Refused r) = and refl (and (refused-free (r .number) (r .line)) none)
   report-free rows buffer (Sound summary) =
-      and refl (sizes-free rows (summary .count) (soundLine ∷ []) (and refl none))
+      let lists = listLines rows (summary .lists) in
+      and refl (sizes-free rows (summary .count) (soundLine ∷ lists)
+      (and refl (lists-free rows (summary .lists))))
   report-free rows buffer (Trapped summary trap) =
-      let lost = (bytes "lost ") ++ decimal (trap .lost) in
-      and refl (sizes-free rows (summary .count) (trappedLine ∷ trapLines signals buffer trap)
-      (and refl (ticks-free 1 (take (trap .length) buffer) (lost ∷ [])
-      (and (numbered-free (bytes "lost ") (trap .lost) refl) none))))
+      let w = take (trap .length) buffer in
+      let lost = lostLine (trap .lost) in
+      let lists = listLines rows (summary .lists) in
+      let ticks = tickLines signals 1 w in
+      rw (append-assoc ticks (lost ∷ []) lists) (and refl (sizes-free rows (summary .count)
+      (trappedLine ∷ ticks ++ lost ∷ lists) (and refl (ticks-free 1 w (lost ∷ lists)
+      (and (numbered-free (bytes "lost ") (trap .lost) refl) (lists-free rows (summary .lists)))))))
 
 -- Byte k of line i.
 abbrev byteAt : ℕ → ℕ → List (List ℕ) → ℕ
@@ -115,20 +127,23 @@ sizes-injective rows rows′ m n xs ys e =
     )
 
 values-injective : (n k x y : ℕ) → signalValues n k x ≡ signalValues n k y
-    → (l : ℕ) → k ≤ l → l < k + n → signalOn x l ≡ signalOn y l
+    → (i : ℕ) → i < n → signalOn x (k + i) ≡ signalOn y (k + i)
 unfolding signalValues
-values-injective zero k x y e l low high = absurd (omega arith)
-values-injective (suc n) k x y e l low high =
-    go (decLt k l) (values-injective n (suc k) x y (tail-eq-of-cons-eq e) l)
-  where
-    go : Dec (k < l) → (suc k ≤ l → l < suc k + n → signalOn x l ≡ signalOn y l)
-        → signalOn x l ≡ signalOn y l
-    go (yes later) ih = ih later (omega arith)
-    go (no here) ih =
-        let same : l ≡ k = omega arith in
-        let bits : bit (signalOn x k) ≡ bit (signalOn y k) =
-        omega (arith, head-eq-of-cons-eq e) in
-        rw same (bit-injective (signalOn x k) (signalOn y k) bits)
+values-injective zero k x y e i h = absurd (omega arith)
+values-injective (suc n) k x y e zero h =
+    let here : k + 0 ≡ k = omega arith in
+    let bits : bit (signalOn x k) ≡ bit (signalOn y k) = omega (arith, head-eq-of-cons-eq e) in
+    rw here (bit-injective (signalOn x k) (signalOn y k) bits)
+values-injective (suc n) k x y e (suc i) h =
+    let later : k + suc i ≡ suc k + i = omega arith in
+    rw later (values-injective n (suc k) x y (tail-eq-of-cons-eq e) i (omega arith))
+
+lists-injective : (rows rows′ : ℕ) (m n : RowLists) → rows ≡ rows′ → m .never < 2 ^ rows
+    → n .never < 2 ^ rows′ → listLines rows m ≡ listLines rows′ n → m ≡ n
+lists-injective rows rows′ m n same p q e =
+    let never = row-line-injective (m .never) (n .never) (bytes "never") rows′ (rw same at p) q
+    (rw same at (head-eq-of-cons-eq e)) in
+    λ i. record { never = never i }
 
 trap-injective : (s t : Trap) (b c : List ℕ) → s .length ≤ length b → t .length ≤ length c
     → (take (s .length) b ≡ take (t .length) c) × (s .lost ≡ t .lost) → s ≡ t
@@ -144,79 +159,94 @@ module _ (signals : ℕ) where
       let same = tail-eq-of-cons-eq (append-cancel-left (bytes "tick " ++ decimal tick)
       (32 ∷ signalValues signals 0 x) (32 ∷ signalValues signals 0 y) e) in
       set-ext signals x y (ltb-true x (letters signals) f) (ltb-true y (letters signals) g)
-      (λ l h. values-injective signals 0 x y same l (omega arith) (omega arith))
+      (λ l h. rw zero-add at (values-injective signals 0 x y same l h))
 
-  trace-injective : (m n tick : ℕ) (v w : List ℕ) → every (letterValid signals) v ≡ true
-      → every (letterValid signals) w ≡ true
-      → tickLines signals tick v ++ lostLine m ∷ []
-      ≡ tickLines signals tick w ++ lostLine n ∷ [] → (v ≡ w) × (m ≡ n)
+  trace-injective : (m n tick : ℕ) (v w : List ℕ) (xs ys : List (List ℕ))
+      → every (letterValid signals) v ≡ true → every (letterValid signals) w ≡ true
+      → tickLines signals tick v ++ lostLine m ∷ xs ≡ tickLines signals tick w ++ lostLine n ∷ ys
+      → (v ≡ w) × (m ≡ n) × (xs ≡ ys)
   unfolding tickLines every
-  trace-injective m n tick [] [] f g e =
-      (refl, numbered-injective (bytes "lost ") m n (head-eq-of-cons-eq e))
-  trace-injective m n tick [] (y ∷ w) f g e = absurd (omega (arith, ap (byteAt 0 0) e))
-  trace-injective m n tick (x ∷ v) [] f g e = absurd (omega (arith, ap (byteAt 0 0) e))
-  trace-injective m n tick (x ∷ v) (y ∷ w) f g e =
+  trace-injective m n tick [] [] xs ys f g e = (
+    refl,
+    numbered-injective (bytes "lost ") m n (head-eq-of-cons-eq e),
+    tail-eq-of-cons-eq e,
+  )
+  trace-injective m n tick [] (y ∷ w) xs ys f g e = absurd (omega (arith, ap (byteAt 0 0) e))
+  trace-injective m n tick (x ∷ v) [] xs ys f g e = absurd (omega (arith, ap (byteAt 0 0) e))
+  trace-injective m n tick (x ∷ v) (y ∷ w) xs ys f g e =
       let fits = letterValid signals in
       let first = tick-injective tick x y (and-left (fits x) (every fits v) f)
       (and-left (fits y) (every fits w) g) (head-eq-of-cons-eq e) in
-      let others = trace-injective m n (suc tick) v w (and-right (fits x) (every fits v) f)
+      let others = trace-injective m n (suc tick) v w xs ys (and-right (fits x) (every fits v) f)
       (and-right (fits y) (every fits w) g) (tail-eq-of-cons-eq e) in
-      (ap₂ _∷_ first (others .0), others .1)
+      (ap₂ _∷_ first (others .0), others .1, others .2)
 
--- What two reports show is the same: what is found, the trace and, under a verdict, the number of
--- rows.
+-- What two reports show is the same: what is found, with its lists, the trace and, under a verdict,
+-- the number of rows.
 pub record SameReported (rows rows′ : ℕ) (one other : Found) (b c : List ℕ) : Type 0 where
   pub found : one ≡ other
   pub trace : take (valuesOf one .length) b ≡ take (valuesOf other .length) c
   pub size : (valuesOf one .verdict ≡ Verdict.noVerdict → ⊥) → rows ≡ rows′
 
-summary-same : {m n : Summary} → m .count ≡ n .count → m ≡ n
-summary-same e = λ i. record { count = e i }
+summary-same : {m n : Summary} → m .count ≡ n .count → m .lists ≡ n .lists → m ≡ n
+summary-same count lists = λ i. record { count = count i; lists = lists i }
 
 module _ (signals rows rows′ : ℕ) where
   lines-injective : (one other : Found) (b c : List ℕ) → TraceInBuffer signals b one
-      → TraceInBuffer signals c other
+      → TraceInBuffer signals c other → ListedRows rows one → ListedRows rows′ other
       → reportLines rows signals b one ≡ reportLines rows′ signals c other
       → SameReported rows rows′ one other b c
   unfolding reportLines
-  lines-injective (Refused r) (Refused s) b c p q e = record {
+  lines-injective (Refused r) (Refused s) b c p q l k e = record {
     found = ap Refused (refused-injective r s (head-eq-of-cons-eq (tail-eq-of-cons-eq e)));
     trace = refl;
     size = λ verdict. absurd (verdict refl);
   }
-  lines-injective (Refused r) (Sound n) b c p q e = absurd (omega (arith, ap (byteAt 1 1) e))
-  lines-injective (Refused r) (Trapped n t) b c p q e = absurd (omega (arith, ap (byteAt 1 1) e))
-  lines-injective (Sound m) (Refused s) b c p q e = absurd (omega (arith, ap (byteAt 1 1) e))
-  lines-injective (Sound m) (Sound n) b c p q e =
-      let sizes = sizes-injective rows rows′ (m .count) (n .count) (soundLine ∷ [])
-      (soundLine ∷ []) (tail-eq-of-cons-eq e) in
+  lines-injective (Refused r) (Sound n) b c p q l k e = absurd (omega (arith, ap (byteAt 1 1) e))
+  lines-injective (Refused r) (Trapped n t) b c p q l k e =
+      absurd (omega (arith, ap (byteAt 1 1) e))
+  lines-injective (Sound m) (Refused s) b c p q l k e = absurd (omega (arith, ap (byteAt 1 1) e))
+  lines-injective (Sound m) (Sound n) b c p q l k e =
+      let sizes = sizes-injective rows rows′ (m .count) (n .count)
+      (soundLine ∷ listLines rows (m .lists)) (soundLine ∷ listLines rows′ (n .lists))
+      (tail-eq-of-cons-eq e) in
+      let lists = lists-injective rows rows′ (m .lists) (n .lists) (sizes .0) (l .never) (k .never)
+      (tail-eq-of-cons-eq (sizes .2)) in
       record {
-        found = ap Sound (summary-same (sizes .1));
+        found = ap Sound (summary-same (sizes .1) lists);
         trace = refl;
         size = λ verdict. sizes .0;
       }
-  lines-injective (Sound m) (Trapped n t) b c p q e = absurd (omega (arith, ap (byteAt 3 8) e))
-  lines-injective (Trapped m s) (Refused r) b c p q e = absurd (omega (arith, ap (byteAt 1 1) e))
-  lines-injective (Trapped m s) (Sound n) b c p q e = absurd (omega (arith, ap (byteAt 3 8) e))
-  lines-injective (Trapped m s) (Trapped n t) b c p q e =
+  lines-injective (Sound m) (Trapped n t) b c p q l k e =
+      absurd (omega (arith, ap (byteAt 3 8) e))
+  lines-injective (Trapped m s) (Refused r) b c p q l k e =
+      absurd (omega (arith, ap (byteAt 1 1) e))
+  lines-injective (Trapped m s) (Sound n) b c p q l k e =
+      absurd (omega (arith, ap (byteAt 3 8) e))
+  lines-injective (Trapped m s) (Trapped n t) b c p q l k e =
+      let v = take (s .length) b in
+      let w = take (t .length) c in
       let sizes = sizes-injective rows rows′ (m .count) (n .count)
-      (trappedLine ∷ trapLines signals b s) (trappedLine ∷ trapLines signals c t)
-      (tail-eq-of-cons-eq e) in
-      let same = trace-injective signals (s .lost) (t .lost) 1 (take (s .length) b)
-      (take (t .length) c) (p .letters) (q .letters) (tail-eq-of-cons-eq (sizes .2)) in
+      (trappedLine ∷ trapLines signals b s ++ listLines rows (m .lists))
+      (trappedLine ∷ trapLines signals c t ++ listLines rows′ (n .lists)) (tail-eq-of-cons-eq e) in
+      let same = trace-injective signals (s .lost) (t .lost) 1 v w (listLines rows (m .lists))
+      (listLines rows′ (n .lists)) (p .letters) (q .letters)
+      (simp append-assoc at (tail-eq-of-cons-eq (sizes .2))) in
+      let lists = lists-injective rows rows′ (m .lists) (n .lists) (sizes .0) (l .never) (k .never)
+      (same .2) in
       record {
-        found = ap₂ Trapped (summary-same (sizes .1))
-            (trap-injective s t b c (p .whole) (q .whole) same);
+        found = ap₂ Trapped (summary-same (sizes .1) lists)
+            (trap-injective s t b c (p .whole) (q .whole) (same .0, same .1));
         trace = same .0;
         size = λ verdict. sizes .0;
       }
 
   pub bytes-injective : (one other : Found) (b c : List ℕ) → TraceInBuffer signals b one
-      → TraceInBuffer signals c other
+      → TraceInBuffer signals c other → ListedRows rows one → ListedRows rows′ other
       → reportBytes rows signals b one ≡ reportBytes rows′ signals c other
       → SameReported rows rows′ one other b c
-  bytes-injective one other b c p q same =
-      lines-injective one other b c p q
+  bytes-injective one other b c p q l k same =
+      lines-injective one other b c p q l k
       (sym (lines-ended (reportLines rows signals b one) (report-free signals rows b one))
       ∙ ap lines same
       ∙ lines-ended (reportLines rows′ signals c other) (report-free signals rows′ c other))

@@ -1,23 +1,27 @@
 -- How long the lines of a report are. Assumes nothing.
 use Prim.Native.Nat.{ℕ, zero, suc, _+_, _*_, _^_, _<_, _≤_}
 use native.Mathlib.Omega.{arith}
+use mathlib.Core.Bool.{Bool, true, false, cond}
 use mathlib.Core.List.{List, [], _∷_, _++_}
 use mathlib.Core.Path.{_≡_, refl, ap}
 use lib.ListN.{length, take, length-append, length-take}
+use Rattle.letters.specs.Letter.{bitAt}
 use Rattle.text.specs.Bytes.{bytes}
 use Rattle.text.specs.Bounds.{decimal}
 use Rattle.text.specs.Lines.{LF, ended}
 use Rattle.text.proofs.Decimals.{decimal-length}
 use Rattle.text.proofs.Joins.{ended-append}
-use Rattle.table.specs.Limits.{mostSignals}
+use Rattle.table.specs.Limits.{mostSignals, mostRows}
 use Rattle.verdict.specs.declared.Found.{Found}
 use Rattle.verdict.specs.declared.Found.the-variants.{Refused, Sound, Trapped}
+use Rattle.verdict.specs.declared.RowLists.{RowLists}
 use Rattle.verdict.specs.declared.Trap.{Trap}
 use Rattle.verdict.specs.Found.{Values, valuesOf}
 use Rattle.report.specs.Report.{heading, refusedLine}
 use Rattle.report.specs.Report.{sizeLines, soundLine, trappedLine}
 use Rattle.report.specs.Report.{signalValues, tickLine, tickLines, trapLines, reportLines}
-use Rattle.report.specs.Report.{lostLine, reportBytes}
+use Rattle.report.specs.Report.{lostLine, rowNumbers, spaced, spacedOrDash}
+use Rattle.report.specs.Report.{listLines, reportBytes}
 
 -- A word, a number below 10^(k+1), and the line's end.
 pub numbered-length : (k : ℕ) (word : List ℕ) (n : ℕ) → n < 10 ^ suc k
@@ -49,6 +53,35 @@ module _ (signals k : ℕ) where
       let others = ticks-length most enough (suc tick) w (omega arith) in
       rw length-append (omega arith)
 
+or-dash-length : (numbers : List ℕ) → length (spacedOrDash numbers) ≤ length (spaced numbers) + 2
+unfolding spaced spacedOrDash
+or-dash-length [] = omega arith
+or-dash-length (number ∷ more) = omega arith
+
+-- Each row number takes at most `most` bytes, its space included, while the numbers are below
+-- 10^(k+1).
+module _ (k most : ℕ) (enough : k + 2 ≤ most) (set : ℕ) where
+  numbers-length : (n r : ℕ) → r + n < 10 ^ suc k
+      → length (spaced (rowNumbers n r set)) ≤ n * most
+  unfolding rowNumbers spaced
+  numbers-length zero r low = omega arith
+  numbers-length (suc n) r low =
+      go (bitAt set r) (rowNumbers n (suc r) set) (numbers-length n (suc r) (omega arith))
+    where
+      go : (b : Bool) (later : List ℕ) → length (spaced later) ≤ n * most
+          → length (spaced (cond b (suc r ∷ later) later)) ≤ suc n * most
+      go true later others =
+          let few = decimal-length k (suc r) (omega arith) in rw length-append (omega arith)
+      go false later others = omega arith
+
+  -- A word, the numbers of the first n rows, and the line's end.
+  pub row-line-length : (word : List ℕ) (n : ℕ) → n < 10 ^ suc k
+      → length (word ++ spacedOrDash (rowNumbers n 0 set) ++ LF ∷ []) ≤ length word + n * most + 3
+  row-line-length word n low =
+      let numbers = numbers-length n 0 (omega arith) in
+      let dash = or-dash-length (rowNumbers n 0 set) in
+      rw (length-append, length-append) (omega arith)
+
 -- The lines of a report, line by line.
 more-length : (line : List ℕ) (more : List (List ℕ))
     → length (ended (line ∷ more)) ≡ suc (length line) + length (ended more)
@@ -59,27 +92,24 @@ both-length : (xs ys : List (List ℕ))
     → length (ended (xs ++ ys)) ≡ length (ended xs) + length (ended ys)
 both-length xs ys = rw (ended-append xs ys, length-append)
 
-none-length : length (ended []) ≡ 0
-unfolding ended
-none-length = refl
-
 last-length : (k : ℕ) (word : List ℕ) (n : ℕ) → n < 10 ^ suc k
     → length (ended ((word ++ decimal n) ∷ [])) ≤ length word + k + 2
 unfolding ended
 last-length = numbered-length
 
--- Numbers of few digits, and a trace of at most so many ticks.
+-- No more rows than a table can have, numbers of few digits, and a trace of at most so many ticks.
 pub record FewDigits (rows ticks : ℕ) (values : Values) : Type 0 where
-  pub rules : rows < 1000
+  pub rules : rows ≤ mostRows
   pub number : values .number < 1000
   pub line : values .line < 1000
   pub short : values .length ≤ ticks
   pub lost : values .lost < 100000
   pub count : values .count < 100000
 
-size-length : (rows n : ℕ) → rows < 1000 → n < 100000 → length (ended (sizeLines rows n)) ≤ 31
+size-length : (rows n : ℕ) → rows ≤ mostRows → n < 100000
+    → length (ended (sizeLines rows n)) ≤ 29
 size-length rows n few count =
-    let first = last-length 2 (bytes "rules ") rows few in
+    let first = last-length 0 (bytes "rules ") rows (omega arith) in
     let second = last-length 4 (bytes "configurations ") n count in
     omega (
       arith,
@@ -88,6 +118,14 @@ size-length rows n few count =
       both-length ((bytes "rules " ++ decimal rows) ∷ [])
           ((bytes "configurations " ++ decimal n) ∷ []),
     )
+
+lists-length : (rows : ℕ) (lists : RowLists) → rows ≤ mostRows
+    → length (ended (listLines rows lists)) ≤ 24
+unfolding ended
+lists-length rows lists few =
+    let never = row-line-length 0 2 (omega arith) (lists .never) (bytes "never") rows
+    (omega arith) in
+    omega (arith, never)
 
 module _ (rows signals ticks : ℕ) (buffer : List ℕ) (low : signals ≤ mostSignals)
     (low-ticks : ticks < 10000) where
@@ -120,25 +158,30 @@ module _ (rows signals ticks : ℕ) (buffer : List ℕ) (low : signals ≤ mostS
       )
   report-short (Sound summary) few =
       let sizes = sizeLines rows (summary .count) in
+      let lists = listLines rows (summary .lists) in
       let size = size-length rows (summary .count) (few .rules) (few .count) in
-      let verdict = more-length soundLine [] in
+      let list = lists-length rows (summary .lists) (few .rules) in
       omega (
         arith,
         size,
-        verdict,
-        none-length,
-        more-length heading (sizes ++ soundLine ∷ []),
-        both-length sizes (soundLine ∷ []),
+        list,
+        more-length heading (sizes ++ soundLine ∷ lists),
+        both-length sizes (soundLine ∷ lists),
+        more-length soundLine lists,
       )
   report-short (Trapped summary trap) few =
       let sizes = sizeLines rows (summary .count) in
+      let lists = listLines rows (summary .lists) in
       let size = size-length rows (summary .count) (few .rules) (few .count) in
       let trace = trap-length trap (few .short) (few .lost) in
+      let list = lists-length rows (summary .lists) (few .rules) in
       let rest = trapLines signals buffer trap in
       omega (
         arith,
         size,
         trace,
+        list,
+        both-length (heading ∷ sizes ++ trappedLine ∷ rest) lists,
         more-length heading (sizes ++ trappedLine ∷ rest),
         both-length sizes (trappedLine ∷ rest),
         more-length trappedLine rest,

@@ -1,19 +1,17 @@
 -- "A whole report": its lines, for each thing that can be found of a table.
 use Prim.Native.Char.{code}
-use Prim.Native.Nat.{ℕ, zero, suc, _+_, _≤_}
-use mathlib.Core.Bool.{true}
+use Prim.Native.Nat.{ℕ, zero, suc, _+_}
+use mathlib.Core.Bool.{cond}
 use mathlib.Core.List.{List, [], _∷_, _++_}
-use mathlib.Core.Path.{_≡_}
-use lib.ListN.{length, take}
-use Rattle.letters.specs.Letter.{signalOn, bit, letterValid}
-use Rattle.letters.specs.Lists.{every}
+use lib.ListN.{take}
+use Rattle.letters.specs.Letter.{bitAt, signalOn, bit}
 use Rattle.text.specs.Bounds.{decimal}
 use Rattle.text.specs.Bytes.{bytes}
 use Rattle.text.specs.Lines.{ended}
 use Rattle.verdict.specs.declared.Found.{Found}
 use Rattle.verdict.specs.declared.Found.the-variants.{Refused, Sound, Trapped}
+use Rattle.verdict.specs.declared.RowLists.{RowLists}
 use Rattle.verdict.specs.declared.Trap.{Trap}
-use Rattle.verdict.specs.Found.{valuesOf}
 
 -- "Output": its first line.
 abbrev pub heading : List ℕ
@@ -28,7 +26,7 @@ abbrev pub sizeLines : ℕ → ℕ → List (List ℕ)
 sizeLines rows count =
     (bytes "rules " ++ decimal rows) ∷ (bytes "configurations " ++ decimal count) ∷ []
 
--- "A sound table ends after `verdict sound`."
+-- The verdict.
 abbrev pub soundLine : List ℕ
 soundLine = bytes "verdict sound"
 
@@ -59,14 +57,38 @@ abbrev pub trapLines : ℕ → List ℕ → Trap → List (List ℕ)
 trapLines signals buffer trap =
     tickLines signals 1 (take (trap .length) buffer) ++ lostLine (trap .lost) ∷ []
 
+-- The numbers of the rows in a set, in file order, of n rows from bit r on: bit r is row r + 1.
+unfoldable pub rowNumbers : ℕ → ℕ → ℕ → List ℕ
+rowNumbers zero r set = []
+rowNumbers (suc n) r set =
+    let later = rowNumbers n (suc r) set in cond (bitAt set r) (suc r ∷ later) later
+
+-- Document 02, ask 2: "each row number after a space, or" a dash where there is none.
+unfoldable pub spaced : List ℕ → List ℕ
+spaced [] = []
+spaced (number ∷ more) = bytes " " ++ decimal number ++ spaced more
+
+unfoldable pub spacedOrDash : List ℕ → List ℕ
+spacedOrDash [] = bytes " -"
+spacedOrDash (number ∷ more) = spaced (number ∷ more)
+
+-- "A last line `never` with each row number after a space, or `never -`."
+abbrev pub neverLine : ℕ → ℕ → List ℕ
+neverLine rows set = bytes "never" ++ spacedOrDash (rowNumbers rows 0 set)
+
+-- The lists of rows that every verdict comes with.
+abbrev pub listLines : ℕ → RowLists → List (List ℕ)
+listLines rows lists = neverLine rows (lists .never) ∷ []
+
 -- What is found of a table with so many rows and signals. "A refused one prints the first line and
 -- `refused 13 line 3`, with its own number and line."
 unfoldable pub reportLines : ℕ → ℕ → List ℕ → Found → List (List ℕ)
 reportLines rows signals buffer (Refused r) = heading ∷ refusedLine (r .number) (r .line) ∷ []
 reportLines rows signals buffer (Sound summary) =
-    heading ∷ sizeLines rows (summary .count) ++ soundLine ∷ []
+    heading ∷ sizeLines rows (summary .count) ++ soundLine ∷ listLines rows (summary .lists)
 reportLines rows signals buffer (Trapped summary trap) =
     heading ∷ sizeLines rows (summary .count) ++ trappedLine ∷ trapLines signals buffer trap
+    ++ listLines rows (summary .lists)
 
 -- "Lines end with LF."
 abbrev pub reportBytes : ℕ → ℕ → List ℕ → Found → List ℕ

@@ -1,2 +1,3 @@
 -- What only the further promises speak of.
 pub mod Trace
+pub mod Lists

@@ -5,6 +5,7 @@ mod put;
 use table::Refusal;
 use text::LF;
 use verdict::Found;
+use verdict::RowLists;
 use verdict::Summary;
 use verdict::Trap;
 ghost use mathlib.Core.List.{[], _∷_, _++_};
@@ -16,7 +17,8 @@ ghost use Rattle.text.specs.Lines.{LF as lineEnd, ended};
 ghost use Rattle.verdict.specs.Buffer.{written};
 ghost use Rattle.report.specs.inner.Puts.{Puts, Countable};
 ghost use Rattle.report.specs.Report.{refusedLine, sizeLines, tickLine, tickLines};
-ghost use Rattle.report.specs.Report.{trapLines, reportBytes};
+ghost use Rattle.report.specs.Report.{trapLines, rowNumbers, spacedOrDash, listLines};
+ghost use Rattle.report.specs.Report.{reportBytes};
 
 // A word, a number and the line's end.
 fn numbered(out: &mut [u8], at: usize, word: &[u8], n: u16) -> usize
@@ -60,7 +62,18 @@ fn tick_lines(out: &mut [u8], at: usize, signals: u8, trace: &[u8], length: u16)
     next
 }
 
-// The lines after the heading: the refusal; the table's size; and the trap.
+// A word, the numbers of the rows in a set, and the line's end.
+fn row_line(out: &mut [u8], at: usize, word: &[u8], rows: u8, set: u64) -> usize
+    requires { ⌜ Countable at (now word ++ spacedOrDash (rowNumbers rows 0 set) ++ lineEnd ∷ []) ⌝ }
+    ensures { λ r. ⌜ Puts at (now (word .entry) ++ spacedOrDash (rowNumbers rows 0 set)
+        ++ lineEnd ∷ []) (now (out .entry)) r (now (out .exit)) ⌝ }
+{
+    let first = put::word(out, at, word);
+    let end = put::row_list(out, first, rows, set);
+    put::byte(out, end, LF)
+}
+
+// The lines after the heading: the refusal; the table's size; the trap; and the lists of rows.
 fn refused(out: &mut [u8], at: usize, refusal: Refusal) -> usize
     requires { ⌜ at ≤ 100 ⌝ }
     ensures { λ r. ⌜ Puts at (refusedLine (refusal .number) (refusal .line) ++ lineEnd ∷ [])
@@ -85,9 +98,18 @@ fn trapped(out: &mut [u8], at: usize, signals: u8, trace: &[u8], trap: Trap) -> 
     requires { ⌜ at ≤ 1000 ⌝ }
     ensures { λ r. ⌜ Puts at (ended (trapLines signals (now (trace .entry)) trap))
         (now (out .entry)) r (now (out .exit)) ⌝ }
+    ensures { λ r. ⌜ r ≤ at + 20000011 ⌝ }
 {
     let lost = tick_lines(out, at, signals, trace, trap.length);
     numbered(out, lost, b"lost ", trap.lost)
+}
+
+fn listed(out: &mut [u8], at: usize, rows: u8, lists: RowLists) -> usize
+    requires { ⌜ at ≤ 30000000 ⌝ }
+    ensures { λ r. ⌜ Puts at (ended (listLines rows lists)) (now (out .entry)) r
+        (now (out .exit)) ⌝ }
+{
+    row_line(out, at, b"never", rows, lists.never)
 }
 
 // Writes the report of a table with so many rows and signals from the buffer's front, and answers
@@ -103,12 +125,14 @@ pub fn write(found: Found, rows: u8, signals: u8, trace: &[u8], out: &mut [u8]) 
         Found::Refused(refusal) => refused(out, at, refusal),
         Found::Sound(summary) => {
             let verdict = sized(out, at, rows, summary);
-            put::word(out, verdict, b"verdict sound\n")
+            let lists = put::word(out, verdict, b"verdict sound\n");
+            listed(out, lists, rows, summary.lists)
         }
         Found::Trapped(summary, trap) => {
             let verdict = sized(out, at, rows, summary);
             let ticks = put::word(out, verdict, b"verdict trapped\n");
-            trapped(out, ticks, signals, trace, trap)
+            let lists = trapped(out, ticks, signals, trace, trap);
+            listed(out, lists, rows, summary.lists)
         }
     }
 }

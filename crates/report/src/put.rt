@@ -5,7 +5,7 @@ ghost use mathlib.Core.Path.{_≡_};
 ghost use lib.ListN.{set};
 ghost use Rattle.text.specs.Bounds.{decimal as decimalOf};
 ghost use Rattle.report.specs.inner.Puts.{Puts, Countable};
-ghost use Rattle.report.specs.Report.{signalValues};
+ghost use Rattle.report.specs.Report.{signalValues, rowNumbers, spaced, spacedOrDash};
 
 fn store(out: &mut [u8], at: usize, b: u8)
     ensures { λ _. ⌜ now (out .exit) ≡ set (now (out .entry)) at b ⌝ }
@@ -61,4 +61,37 @@ pub(crate) fn signal_values(out: &mut [u8], at: usize, signals: u8, letter: u8) 
         k += 1;
     }
     at + k as usize
+}
+
+// The number of each row in a set, after a space. Bit r is row r + 1.
+fn row_numbers(out: &mut [u8], at: usize, rows: u8, set: u64) -> usize
+    requires { ⌜ Countable at (spaced (rowNumbers rows 0 set)) ⌝ }
+    ensures { λ r. ⌜ Puts at (spaced (rowNumbers rows 0 set)) (now (out .entry)) r
+        (now (out .exit)) ⌝ }
+{
+    let mut next = at;
+    let mut bits = set;
+    let mut row: u16 = 1;
+    while row <= rows as u16 {
+        if bits % 2 == 1 {
+            let number = byte(out, next, b' ');
+            next = decimal(out, number, row);
+        }
+        bits = bits / 2;
+        row += 1;
+    }
+    next
+}
+
+// The same, or ` -` where there is none.
+pub(crate) fn row_list(out: &mut [u8], at: usize, rows: u8, set: u64) -> usize
+    requires { ⌜ Countable at (spacedOrDash (rowNumbers rows 0 set)) ⌝ }
+    ensures { λ r. ⌜ Puts at (spacedOrDash (rowNumbers rows 0 set)) (now (out .entry)) r
+        (now (out .exit)) ⌝ }
+{
+    let end = row_numbers(out, at, rows, set);
+    if end == at {
+        return word(out, at, b" -");
+    }
+    end
 }

@@ -7,3 +7,4 @@ pub mod Rows
 pub mod Systems
 pub mod RowEvents
 pub mod Happened
+pub mod Firing

@@ -23,11 +23,11 @@ use table::Refusal;
 use verdict::Found;
 
 // The bit of word n, unless the two are the same.
-pub fn unless(same: bool, n: u8) -> u16 {
+pub fn unless(same: bool, n: u8) -> u32 {
     if same {
         return 0;
     }
-    if n < 16 { 1 << n } else { 0 }
+    if n < 32 { 1 << n } else { 0 }
 }
 
 fn compare_values(
@@ -36,37 +36,44 @@ fn compare_values(
     length: u16,
     lost: u16,
     count: u16,
+    never: u64,
     right: Expected,
-) -> u16 {
+) -> u32 {
     let refused = (refusal.number == right.number) & (refusal.line == 0);
     unless(refused, 0)
         | unless(verdict == right.verdict, 1)
         | unless(length as usize == right.length, 2)
         | unless(lost as usize == right.lost, 3)
         | unless(count as usize == right.count, 4)
+        | unless(never == right.never, 16)
 }
 
-pub fn compare_answers(found: Found, right: Expected) -> u16 {
+pub fn compare_answers(found: Found, right: Expected) -> u32 {
     let taken = Refusal { number: 0, line: 0 };
     match found {
-        Found::Refused(refusal) => compare_values(refusal, ABSENT, 0, 0, 0, right),
-        Found::Sound(summary) => compare_values(taken, SOUND, 0, 0, summary.count, right),
+        Found::Refused(refusal) => compare_values(refusal, ABSENT, 0, 0, 0, 0, right),
+        Found::Sound(summary) => {
+            let never = summary.lists.never;
+            compare_values(taken, SOUND, 0, 0, summary.count, never, right)
+        }
         Found::Trapped(summary, trap) => {
-            compare_values(taken, TRAPPED, trap.length, trap.lost, summary.count, right)
+            let count = summary.count;
+            let never = summary.lists.never;
+            compare_values(taken, TRAPPED, trap.length, trap.lost, count, never, right)
         }
     }
 }
 
 // The bit of word n, if place i of a list with so many places holds not the number that it should.
-fn wrong(i: usize, places: usize, number: u64, right: u64, n: u8) -> u16 {
+fn wrong(i: usize, places: usize, number: u64, right: u64, n: u8) -> u32 {
     unless((places <= i) | (number == right), n)
 }
 
-fn wrong16(i: usize, places: usize, number: u16, right: u64, n: u8) -> u16 {
+fn wrong16(i: usize, places: usize, number: u16, right: u64, n: u8) -> u32 {
     wrong(i, places, number as u64, right % 65536, n)
 }
 
-fn wrong8(i: usize, places: usize, number: u8, right: u64, n: u8) -> u16 {
+fn wrong8(i: usize, places: usize, number: u8, right: u64, n: u8) -> u32 {
     wrong(i, places, number as u64, right % 256, n)
 }
 
@@ -77,7 +84,7 @@ pub fn compare_lists(
     answer: &[u64; ALL_PARTS],
     right: Expected,
     key: u64,
-) -> u16 {
+) -> u32 {
     let states = held.states;
     let predecessors = held.predecessors;
     let letters = held.letters;
@@ -85,7 +92,7 @@ pub fn compare_lists(
     let trace = held.trace;
     let used = right.used;
     let cleared = right.cleared;
-    let mut bits: u16 = 0;
+    let mut bits: u32 = 0;
     for i in 0..LONGEST {
         let a = after_search(answer, STATE, i, used, cleared, key ^ STATES_KEY);
         let b = after_search(

@@ -8,15 +8,18 @@ pub const SOUND: u8 = 1;
 
 pub const TRAPPED: u8 = 2;
 
-// The answer: the number of a refusal or 0, the verdict, and its trace length, lost number and
-// count. With it goes what the lent lists hold: the scratch has `used` entries, and the rest of it
-// is 0 if `cleared` and else unchanged. The trace buffer has `length` letters, the rest unchanged.
+// The answer: the number of a refusal or 0, the verdict, and its trace length, lost number, count
+// and set of rows that never fire, with those of them that a broken trace realises. With it goes
+// what the lent lists hold: the scratch has `used` entries, and the rest of it is 0 if `cleared`
+// and else unchanged. The trace buffer has `length` letters, the rest unchanged.
 pub struct Expected {
     pub number: u8,
     pub verdict: u8,
     pub length: usize,
     pub lost: usize,
     pub count: usize,
+    pub never: u64,
+    pub with_break: u64,
     pub used: usize,
     pub cleared: bool,
 }
@@ -33,7 +36,7 @@ fn room(l: Lengths) -> usize {
     )
 }
 
-// "every other number or mark in the answer is 0 or absent".
+// "every other number or mark in the answer is 0 or absent". "A refused search gives no list."
 fn refused(number: u8, used: usize, cleared: bool) -> Expected {
     Expected {
         number,
@@ -41,6 +44,8 @@ fn refused(number: u8, used: usize, cleared: bool) -> Expected {
         length: 0,
         lost: 0,
         count: 0,
+        never: 0,
+        with_break: 0,
         used,
         cleared,
     }
@@ -64,12 +69,15 @@ pub fn expect(valid: bool, solved: Solved, lengths: Lengths) -> Expected {
     }
     let length = solved.length;
     let lost = solved.lost;
+    let never = solved.never;
     Expected {
         number: 0,
         verdict,
         length,
         lost,
         count,
+        never: never.rows,
+        with_break: never.with_break,
         used: count,
         cleared: true,
     }

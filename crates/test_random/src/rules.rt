@@ -1,6 +1,6 @@
 // The step rules of document 01 over phase codes: "0 waiting; 1-60 trigger elapsed; 60 + elapsed
-// for delay; 120 + elapsed for action; 255 broken"; and which of the events of document 02, ask 1,
-// happen at a letter.
+// for delay; 120 + elapsed for action; 255 broken"; which of the events of document 02, ask 1,
+// happen at a letter; and which rows' triggers are realised at it.
 use table::AC;
 use table::AEE;
 use table::ASE;
@@ -141,7 +141,7 @@ fn trigger_ticks(row: Row, code: u8, letter: u8) -> u8 {
 }
 
 // "if TEE holds and t >= Tmin, the trigger is realised".
-fn realises(row: Row, code: u8, letter: u8) -> bool {
+pub fn realises(row: Row, code: u8, letter: u8) -> bool {
     let t = trigger_ticks(row, code, letter);
     (t != NOT_DONE) & holds(row.sets[TEE], letter) & (row.tmin <= t)
 }
@@ -190,6 +190,21 @@ pub fn events(row: Row, code: u8, letter: u8) -> u8 {
         | bit(acts(row, code, letter), ACTING)
         | bit(completes(row, code, letter, after), COMPLETED)
         | bit((code != 255) & (after == BROKEN_ROW), BROKE)
+}
+
+// The rows of a state whose trigger a letter realises, as a set: bit r is row r + 1.
+pub fn realised_rows(table: Table, state: u64, letter: u8) -> u64 {
+    let rows = table.rows;
+    let mut set: u64 = 0;
+    for i in 0..MOST_ROWS {
+        if i < table.count as usize {
+            let code = ((state >> (8 * i)) % 256) as u8;
+            if realises(rows[i], code, letter) {
+                set = set | (1 << i);
+            }
+        }
+    }
+    set
 }
 
 // A row's code after a letter, broken or not.

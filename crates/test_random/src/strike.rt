@@ -7,9 +7,16 @@ use crate::random::below;
 use crate::random::byte_below;
 use crate::random::mixed;
 use crate::random::one_in;
+use verdict::Found;
+use verdict::Summary;
 
-// The lists by number: states, predecessors, letters, lost numbers, trace.
-const LISTS: u8 = 5;
+// The lists by number: states, predecessors, letters, lost numbers, trace, and the set of rows that
+// never fire, whose places are its bits.
+const LISTS: u8 = 6;
+
+const NEVER: u8 = 5;
+
+const BITS: usize = 64;
 
 // A place of a list; or none, where there is no such list.
 pub struct Strike {
@@ -25,8 +32,9 @@ pub fn is_struck(strike: Strike) -> bool {
     strike.list < LISTS
 }
 
-// One place in one table of twenty, if the list that is picked has any.
-pub fn any_strike(seed: u64, lengths: Lengths) -> Strike {
+// One place in one table of twenty, if the list that is picked has any. The set is there only with
+// a verdict.
+pub fn any_strike(seed: u64, lengths: Lengths, verdict: bool) -> Strike {
     let own = mixed(seed);
     if !one_in(own, 20) {
         return nowhere();
@@ -37,7 +45,8 @@ pub fn any_strike(seed: u64, lengths: Lengths) -> Strike {
         1 => lengths.predecessors,
         2 => lengths.letters,
         3 => lengths.lost,
-        _ => lengths.trace,
+        4 => lengths.trace,
+        _ => if verdict { BITS } else { 0 },
     };
     if places == 0 {
         return nowhere();
@@ -98,5 +107,28 @@ pub fn struck(held: Held, strike: Strike) -> Held {
         letters,
         lost,
         trace,
+    }
+}
+
+fn strike_summary(summary: Summary, strike: Strike) -> Summary {
+    let mut lists = summary.lists;
+    let at = strike.at;
+    if strike.list == NEVER {
+        if at < BITS {
+            lists.never = lists.never ^ (1 << at);
+        }
+    }
+    Summary {
+        count: summary.count,
+        lists,
+    }
+}
+
+// The answer with a row put into its set of rows that never fire, or taken out, if it is the one.
+pub fn struck_answer(found: Found, strike: Strike) -> Found {
+    match found {
+        Found::Refused(refusal) => Found::Refused(refusal),
+        Found::Sound(summary) => Found::Sound(strike_summary(summary, strike)),
+        Found::Trapped(summary, trap) => Found::Trapped(strike_summary(summary, strike), trap),
     }
 }

@@ -1,10 +1,12 @@
 // How many tables had which answer, and which kinds of paths.
 use crate::compare::unless;
+use crate::expected::ABSENT;
 use crate::expected::Expected;
 use crate::expected::SOUND;
 use crate::expected::TRAPPED;
 use crate::kinds::Kinds;
 use crate::lists::larger;
+use crate::lists::more;
 use crate::lists::one_more;
 use crate::seen::Seen;
 use crate::seen::nothing;
@@ -28,6 +30,8 @@ pub struct Tally {
     pub longest_trace: usize,
     pub largest_lost: usize,
     pub most_states: usize,
+    pub all_fire: usize,
+    pub with_break: usize,
     pub walks: usize,
     pub walks_agreed: usize,
     pub closed: usize,
@@ -39,7 +43,7 @@ pub struct Tally {
 }
 
 // So many lines are printed of it.
-const LINES: usize = 23;
+const LINES: usize = 25;
 
 // A walk that falls back through so many doomed states in a row is counted.
 const FALL: usize = 5;
@@ -62,6 +66,8 @@ pub fn none() -> Tally {
         longest_trace: 0,
         largest_lost: 0,
         most_states: 0,
+        all_fire: 0,
+        with_break: 0,
         walks: 0,
         walks_agreed: 0,
         closed: 0,
@@ -98,26 +104,26 @@ pub(crate) fn print_line(text: &[u8], n: usize, number: usize) {
 }
 
 // Prints what differs in a table, and its number, unless nothing differs.
-fn print_difference(bits: u16, number: usize) {
+fn print_difference(bits: u32, number: usize) {
     if bits == 0 {
         return;
     }
     let text: &[u8] = b"refusal #verdict #trace length #lost number #count #\
         states #predecessors #letters #lost numbers #trace #\
         the walk's lost numbers #a changed place #a watcher's refusal #\
-        phases #events #event counts #differ in table #";
+        phases #events #event counts #rows that never fire #differ in table #";
     let mut left = bits;
-    for n in 0..16 {
+    for n in 0..17 {
         if left % 2 == 1 {
             print_word(text, n);
         }
         left = left / 2;
     }
-    print_line(text, 16, number);
+    print_line(text, 17, number);
 }
 
 // The tally with a table whose place was changed, and whether the comparison noticed it.
-pub fn noted(tally: Tally, struck: bool, differs: u16) -> Tally {
+pub fn noted(tally: Tally, struck: bool, differs: u32) -> Tally {
     let mut t = tally;
     t.struck = one_more_if(t.struck, struck);
     t.noticed = one_more_if(t.noticed, struck & (differs != 0));
@@ -125,12 +131,21 @@ pub fn noted(tally: Tally, struck: bool, differs: u16) -> Tally {
 }
 
 // What differs, but for a place that was changed to see that it is noticed.
-pub fn reported(struck: bool, differs: u16) -> u16 {
+pub fn reported(struck: bool, differs: u32) -> u32 {
     if struck {
         unless(differs != 0, 11)
     } else {
         differs
     }
+}
+
+// The tally with a verdict's rows that never fire, if there is a verdict.
+fn with_never(tally: Tally, right: Expected) -> Tally {
+    let mut t = tally;
+    let all_fire = (right.verdict != ABSENT) & (right.never == 0);
+    t.all_fire = one_more_if(t.all_fire, all_fire);
+    t.with_break = more(t.with_break, u64::count_ones(right.with_break));
+    t
 }
 
 // The tally with one table more, of which `differs` says what differs. The paths are counted where
@@ -139,7 +154,7 @@ pub fn counted(
     t: Tally,
     right: Expected,
     rows: u8,
-    differs: u16,
+    differs: u32,
     kinds: Kinds,
     seen: Seen,
 ) -> Tally {
@@ -148,32 +163,30 @@ pub fn counted(
     let trapped = right.verdict == TRAPPED;
     let walked = 0 < right.used;
     let fall = if walked { kinds.longest_fall } else { 0 };
-    Tally {
-        tables: one_more(t.tables),
-        agreed: one_more_if(t.agreed, differs == 0),
-        struck: t.struck,
-        noticed: t.noticed,
-        sound: one_more_if(t.sound, sound),
-        sound_with_rows: one_more_if(t.sound_with_rows, sound & (1 < rows) & (3 < right.count)),
-        trapped: one_more_if(t.trapped, trapped),
-        trapped_at_once: one_more_if(t.trapped_at_once, trapped & (right.length == 0)),
-        long_trace: one_more_if(t.long_trace, 3 < right.length),
-        large_lost: one_more_if(t.large_lost, 3 < right.lost),
-        refused_17: one_more_if(t.refused_17, right.number == 17),
-        refused_20: one_more_if(t.refused_20, right.number == 20),
-        refused_21: one_more_if(t.refused_21, right.number == 21),
-        longest_trace: larger(t.longest_trace, right.length),
-        largest_lost: larger(t.largest_lost, right.lost),
-        most_states: larger(t.most_states, right.count),
-        walks: one_more_if(t.walks, walked),
-        walks_agreed: one_more_if(t.walks_agreed, walked & kinds.same),
-        closed: one_more_if(t.closed, walked & kinds.closed),
-        closed_back: one_more_if(t.closed_back, walked & kinds.closed_back),
-        joined: one_more_if(t.joined, walked & kinds.joined),
-        fell_back: one_more_if(t.fell_back, FALL <= fall),
-        longest_fall: larger(t.longest_fall, fall),
-        seen,
-    }
+    let mut next = with_never(t, right);
+    next.tables = one_more(t.tables);
+    next.agreed = one_more_if(t.agreed, differs == 0);
+    next.sound = one_more_if(t.sound, sound);
+    next.sound_with_rows = one_more_if(t.sound_with_rows, sound & (1 < rows) & (3 < right.count));
+    next.trapped = one_more_if(t.trapped, trapped);
+    next.trapped_at_once = one_more_if(t.trapped_at_once, trapped & (right.length == 0));
+    next.long_trace = one_more_if(t.long_trace, 3 < right.length);
+    next.large_lost = one_more_if(t.large_lost, 3 < right.lost);
+    next.refused_17 = one_more_if(t.refused_17, right.number == 17);
+    next.refused_20 = one_more_if(t.refused_20, right.number == 20);
+    next.refused_21 = one_more_if(t.refused_21, right.number == 21);
+    next.longest_trace = larger(t.longest_trace, right.length);
+    next.largest_lost = larger(t.largest_lost, right.lost);
+    next.most_states = larger(t.most_states, right.count);
+    next.walks = one_more_if(t.walks, walked);
+    next.walks_agreed = one_more_if(t.walks_agreed, walked & kinds.same);
+    next.closed = one_more_if(t.closed, walked & kinds.closed);
+    next.closed_back = one_more_if(t.closed_back, walked & kinds.closed_back);
+    next.joined = one_more_if(t.joined, walked & kinds.joined);
+    next.fell_back = one_more_if(t.fell_back, FALL <= fall);
+    next.longest_fall = larger(t.longest_fall, fall);
+    next.seen = seen;
+    next
 }
 
 // The numbers of the lines, in their order.
@@ -195,6 +208,8 @@ fn numbers(t: Tally) -> [usize; LINES] {
         t.longest_trace,
         t.largest_lost,
         t.most_states,
+        t.all_fire,
+        t.with_break,
         t.walks,
         t.walks_agreed,
         t.closed,
@@ -213,6 +228,8 @@ pub fn print(t: Tally) {
         with a lost number over 3 #\
         refused 17: #refused 20: #refused 21: #\
         longest trace #largest lost number #most states #\
+        verdicts without a row that never fires #\
+        rows that never fire, though a broken trace realises them #\
         walks along paths #  with the same lost numbers #  \
         with a path that closes on itself #  with one that closes before its end #  \
         with a path into the living #  with a fall back through 5 doomed states or more #\

@@ -40,12 +40,12 @@ struct Course {
     codes: [u8; MOST_ROWS],
     counts: [u64; ALL_COUNTS],
     number: u8,
-    differs: u16,
+    differs: u32,
     seen: Seen,
 }
 
 pub struct Followed {
-    pub differs: u16,
+    pub differs: u32,
     pub seen: Seen,
 }
 

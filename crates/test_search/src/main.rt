@@ -1,11 +1,14 @@
 // Table files run through the reader and the search, with four scratch lists and a trace buffer of
 // given lengths. Every place of them is 7 before the call, so that one sees which places the search
 // sets and which it leaves. Above each case stands its answer, worked out by hand from document 01.
+// Every row fires, `never -`, unless it says otherwise.
 // Letters of the signals `a c`: 0 neither, 1 `a`, 2 `c`, 3 both.
 mod long;
+mod never;
 mod print;
 
 use long::show_long;
+use never::show_never;
 use print::PLACES;
 use print::print;
 use print::print_found;
@@ -97,7 +100,8 @@ fn row_p() {
 
 // Q: the states 0 to 3, each by letter 1 from the one before. In 2 and 3 the letters with `c`
 // realise the trigger, which breaks the row at once; 0 leads back. Sound, 4 states: predecessors
-// 0 0 1 2, letters 0 1 1 1. The broken states take no room.
+// 0 0 1 2, letters 0 1 1 1. The broken states take no room, and a row that breaks in the tick in
+// which it is realised does not fire: never 1.
 fn row_q() {
     let name: &[u8] = b"q.pnp";
     show_file(name, 4, 4, 4, 4, 0);
@@ -141,7 +145,8 @@ fn no_start() {
 }
 
 // Each letter breaks one of two rows at the first tick. Trapped, 1 state, lost 1, empty trace:
-// lost 1, all else in the scratch 0, the buffer unchanged.
+// lost 1, all else in the scratch 0, the buffer unchanged. Both rows are realised by every letter,
+// and no tick counts: never 1 2.
 fn at_once() {
     let name: &[u8] = b"at_once.pnp";
     show_file(name, 3, 4, 5, 2, 3);
@@ -198,6 +203,7 @@ fn three_signals() {
 // rows are back, and the last two run on to 127 and 128, by 0 or 2. Then 2 leads back to the start.
 // Sound, 9 states: predecessors 0 0 1 2 3 4 5 6 7, letters 0 1 2 0 0 0 0 0 0. The state numbers are
 // the codes times the powers of 256, the first row's with 1, the last row's with 256 to the 7th.
+// Letter 1 realises five rows. Triggers 2 and 5 have no end, trigger 3 no start: never 2 3 5.
 fn eight_rows() {
     show_file(b"eight_rows.pnp", 9, 10, 9, 9, 1);
 }
@@ -228,7 +234,8 @@ fn no_tables() {
     show(b"letter 4 in a set", with_row(p, far), 3, 3, 3, 3, 1);
 }
 
-// As many states as there is room for, with a trap and without, and a trace of 4,080 letters.
+// As many states as there is room for, with a trap and without, a trace of 4,080 letters, and eight
+// rows that `a` would realise, and break, in each of 16 * 15 * 17 states.
 fn large() {
     let full: &[u8] = b"full4096.pnp";
     show_long(full, table_in(full));
@@ -236,6 +243,8 @@ fn large() {
     show_long(free, table_in(free));
     let trace: &[u8] = b"trace4080.pnp";
     show_long(trace, table_in(trace));
+    let never: &[u8] = b"never8.pnp";
+    show_long(never, table_in(never));
 }
 
 fn main() {
@@ -250,6 +259,7 @@ fn main() {
     two_traps();
     three_signals();
     eight_rows();
+    show_never();
     no_tables();
     large();
 }

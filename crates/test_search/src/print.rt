@@ -68,8 +68,23 @@ fn print_numbers(count: u16, lost: u16) {
     print_number(b" states, lost ", lost as u64);
 }
 
-// `trapped, 2 states, lost 1`, or `no verdict` with `refused 21 line 0, ` before it if the call is
-// refused. Answers how many letters the trace has.
+// The rows of a set, from 1: `, never 2 3 5`, or `, never -` if there is none.
+fn print_never(never: u64) {
+    print(b", never");
+    if never == 0 {
+        print(b" -");
+    }
+    let mut left = never;
+    for row in 1..=64 {
+        if left % 2 == 1 {
+            print_u64(row);
+        }
+        left = left / 2;
+    }
+}
+
+// `trapped, 2 states, lost 1, never -`, or `no verdict` and no list, with `refused 21 line 0, `
+// before it, if the call is refused. Answers how many letters the trace has.
 pub fn print_found(found: Found) -> u16 {
     match found {
         Found::Refused(refusal) => {
@@ -82,11 +97,13 @@ pub fn print_found(found: Found) -> u16 {
         Found::Sound(summary) => {
             print(b"sound");
             print_numbers(summary.count, 0);
+            print_never(summary.lists.never);
             0
         }
         Found::Trapped(summary, trap) => {
             print(b"trapped");
             print_numbers(summary.count, trap.lost);
+            print_never(summary.lists.never);
             trap.length
         }
     }

@@ -5,6 +5,7 @@ pub mod Numbers
 pub mod Explore
 pub mod Least
 pub mod Entries
+pub mod Passing
 pub mod Judgement
 pub mod Lists
 pub mod Survival

@@ -2,9 +2,16 @@
 // specs/Found.antt gives document 01's number and values for each case.
 use table::Refusal;
 
-// What every verdict comes with: the count of reached states.
+// Lists of rows, each as a set: bit r is row r + 1.
+pub struct RowLists {
+    // The rows that never fire.
+    pub never: u64,
+}
+
+// What every verdict comes with: the count of reached states, and the lists of rows.
 pub struct Summary {
     pub count: u16,
+    pub lists: RowLists,
 }
 
 // The trap: how many letters of the trace buffer lead into it, and the lost number there.

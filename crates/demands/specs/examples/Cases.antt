@@ -21,10 +21,11 @@ use Rattle.step.specs.Step.{stepRow}
 use Rattle.step.specs.Events.{eventsOf, rowEvents}
 use Rattle.step.specs.Tick.{rowSystem, tableSystem}
 use Rattle.scratch.specs.inner.Same.{samePhases}
+use Rattle.verdict.specs.declared.RowLists.{RowLists}
 use Rattle.verdict.specs.Found.{trappedFound}
 use Rattle.search.specs.Lent.{Lent, roomOf, traced}
-use Rattle.search.specs.inner.Computed.{searchAnswer}
-use Rattle.demands.specs.Searching.{Entered}
+use Rattle.search.specs.inner.Computed.{neverWithin, searchAnswer}
+use Rattle.demands.specs.Searching.{RightLists, Entered}
 
 -- The conditions of the rows, as sets of the four letters.
 abbrev a : ℕ
@@ -75,7 +76,8 @@ abbrev pub delayed : List Row
 delayed = timed (a ∷ a ∷ a ∷ never ∷ never ∷ never ∷ []) 0 0 0 3 0 0 ∷ []
 
 -- A row, the letters that it reads from the start, and the code of its phase then; or the rows of a
--- table that is trapped, the trace, the lost number and the count of states.
+-- table that is trapped, the trace, the lost number and the count of states. Each row of such a
+-- table fires.
 pub data Case : Type 0 where
   after : Row → List ℕ → ℕ → Case
   traps : List Row → List ℕ → ℕ → ℕ → Case
@@ -88,7 +90,12 @@ trappedWith w k n (trapped m v j) = sameBytes v w && eqb j k && eqb m n
 -- What is computed: a room of 8 is enough.
 unfoldable pub isRight : Case → Bool
 isRight (after row letters code) = eqb (codeOf (run (rowSystem 2 row) Waiting letters)) code
-isRight (traps rows w k n) = trappedWith w k n (judge (tableSystem 2 rows) samePhases 8)
+isRight (traps rows w k n) =
+    trappedWith w k n (judge (tableSystem 2 rows) samePhases 8) && eqb (neverWithin 8 2 rows) 0
+
+-- No row is listed.
+abbrev pub noRows : RowLists
+noRows = record { never = 0 }
 
 -- What it means: the phase after the letters; or the whole answer of the search, for every table
 -- value with those rows and all lent memory that holds the states and the trace.
@@ -98,7 +105,8 @@ CaseMeans (traps rows w k n) = (table : Table) (lent : Lent) → tableValid tabl
     → table .signals ≡ 2 → rowsOf table ≡ rows → n ≤ roomOf lent
     → length w ≤ length (lent .trace)
     → (held : Lent) × Entered table n lent held
-    × (searchAnswer table lent ≡ record { found = trappedFound n w k; lent = traced w held })
+    × (searchAnswer table lent
+    ≡ record { found = trappedFound n noRows w k; lent = traced w held })
 
 unfoldable pub starred : List Case
 starred =
@@ -159,4 +167,47 @@ eventCases =
     ∷ happened dropped [] 1 0 (eventsOf true false true false false false)
     ∷ happened atOnce [] 1 0 (eventsOf true true false true true false)
     ∷ happened atOnce (1 ∷ []) 0 255 (eventsOf true true false false false true)
+    ∷ []
+
+-- Document 02, ask 2: the rows of a table, of at most 8 states, and the numbers of those that never
+-- fire, as a set: bit i is row i + 1.
+pub record ListCase : Type 0 where
+  pub rows : List Row
+  pub never : ℕ
+
+abbrev lists : List Row → ℕ → ListCase
+lists rows never = record { rows = rows; never = never }
+
+-- What it means: what is right of these rows is this list.
+abbrev pub ListCaseMeans : ListCase → Type 0
+ListCaseMeans case = RightLists 2 (case .rows) (record { never = case .never })
+
+-- Conditions on both signals.
+abbrev both : ℕ
+both = setOf 4 (λ letter. signalOn letter 0 && signalOn letter 1)
+
+abbrev notBoth : ℕ
+notBoth = setOf 4 (λ letter. not (signalOn letter 0 && signalOn letter 1))
+
+abbrev notA : ℕ
+notA = setOf 4 (λ letter. not (signalOn letter 0))
+
+-- A row that is realised at once, with an action of one condition that starts within some ticks.
+abbrev instant : ℕ → ℕ → ℕ → Row
+instant trigger lmax action =
+    timed (trigger ∷ trigger ∷ trigger ∷ action ∷ action ∷ action ∷ []) 0 0 0 lmax 0 0
+
+-- Q breaks in the tick in which it is realised; a row that another makes impossible; one that is
+-- realised only where another breaks; one that fires in doomed states alone; one whose trigger
+-- cannot end; and two that break each other at the start.
+unfoldable pub listCases : List ListCase
+listCases =
+    lists (Q ∷ []) 1
+    ∷ lists (instant always 0 notBoth ∷ instant both 5 always ∷ []) 2
+    ∷ lists (instant a 0 never ∷ instant a 0 always ∷ []) 3
+    ∷ lists (instant a 3 never
+    ∷ timed (a ∷ always ∷ c ∷ always ∷ always ∷ always ∷ []) 2 3 0 0 0 0 ∷ []) 0
+    ∷ lists (timed (a ∷ a ∷ never ∷ always ∷ always ∷ always ∷ []) 0 5 0 0 0 0
+    ∷ instant c 0 always ∷ []) 1
+    ∷ lists (instant always 0 a ∷ instant always 0 notA ∷ []) 3
     ∷ []

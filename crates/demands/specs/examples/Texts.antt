@@ -43,7 +43,8 @@ pub record ReadAs (rules : List (List ℕ)) (rows : List Row) : Type 0 where
   pub count : tableOf rules .count ≡ length rows
   pub rows-are : rowsOf (tableOf rules) ≡ rows
 
--- "Output": what `checktable` prints of the file of `textP` and `textNotC`.
+-- "Output": what `checktable` prints of the file of `textP` and `textNotC`. The last line is that
+-- of document 02, ask 2.
 abbrev pub wholeOutput : List ℕ
 wholeOutput = ended (
     bytes "PNP report"
@@ -52,4 +53,5 @@ wholeOutput = ended (
     ∷ bytes "verdict trapped"
     ∷ bytes "tick 1 10"
     ∷ bytes "lost 1"
+    ∷ bytes "never -"
     ∷ [])

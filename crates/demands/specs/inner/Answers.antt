@@ -9,14 +9,19 @@ use Rattle.table.specs.Valid.{tableValid}
 use Rattle.table.specs.declared.Table.{Table}
 use Rattle.traces.specs.Count.{ReachedMany}
 use Rattle.traces.specs.inner.Verdicts.{Trapped, Sound}
+use Rattle.verdict.specs.declared.RowLists.{RowLists}
 use Rattle.verdict.specs.Found.{refusedFound, soundFound, trappedFound}
 use Rattle.search.specs.Lent.{Lent, Searched, roomOf, systemOf, cleared, traced}
-use Rattle.search.specs.inner.Computed.{entriesWithin, filled}
+use Rattle.search.specs.inner.Computed.{entriesWithin, listsWithin, filled}
 use Rattle.demands.specs.Searching.{Fit}
 
 -- The lent memory with the entries in its scratch.
 abbrev pub withEntries : Table → Lent → Lent
 withEntries table lent = filled table (entriesWithin (roomOf lent) table) lent
+
+-- The lists of rows by the entries.
+abbrev pub listsIn : Table → Lent → RowLists
+listsIn table lent = listsWithin (roomOf lent) table
 
 pub data ComputedAnswer (table : Table) (lent : Lent) : Searched → Type 0 where
   is17 : tableValid table ≡ false
@@ -28,8 +33,11 @@ pub data ComputedAnswer (table : Table) (lent : Lent) : Searched → Type 0 wher
       → ComputedAnswer table lent
       (record { found = refusedFound 21; lent = withEntries table lent })
   isSound : {n : ℕ} → Fit table lent n → Sound (systemOf table)
-      → ComputedAnswer table lent (record { found = soundFound n; lent = withEntries table lent })
+      → ComputedAnswer table lent
+      (record { found = soundFound n (listsIn table lent); lent = withEntries table lent })
   isTrapped : {n k : ℕ} {w : List ℕ} → Fit table lent n → Trapped (systemOf table) w k
       → length w ≤ length (lent .trace)
-      → ComputedAnswer table lent
-      (record { found = trappedFound n w k; lent = traced w (withEntries table lent) })
+      → ComputedAnswer table lent (record {
+        found = trappedFound n (listsIn table lent) w k;
+        lent = traced w (withEntries table lent);
+      })

@@ -56,10 +56,14 @@ returns : tie.Need-returns
 returns c =
     let lost = c .before .before in
     let ticks = lost .before .before .before .before .before in
-    let args = start ticks .args in
-    puts-lines (tickLines (args .signals) 1 (take (args .trap .length) (args .trace .now))) _
-    (ticks .tick-lines .ensures)
-    (puts-last (lostLine (args .trap .lost)) (lost .numbered .ensures))
+    let at = start ticks in
+    let args = at .args in
+    let lines = ticks .tick-lines .ensures in
+    let number = lost .numbered .ensures in (
+      puts-lines (tickLines (args .signals) 1 (take (args .trap .length) (args .trace .now))) _
+          lines (puts-last (lostLine (args .trap .lost)) number),
+      omega (arith, lines-few at, lost-short at, lines .next-is, number .next-is),
+    )
 
 pub trapped-spec : {M : Type 1} → statement M
 trapped-spec =

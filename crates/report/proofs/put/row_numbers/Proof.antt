@@ -1,0 +1,148 @@
+-- `put::row_numbers` meets its contract. The invariant: the numbers from `row` on, put after what
+-- is done, make the whole, and `bits` is the set without the bits of the rows before. The measure:
+-- how many rows are left. Assumes nothing.
+use Prim.Native.Nat.{ℕ, suc, _+_, _-_, _/_, _%_, _^_, _≤_}
+use borrow.Author.Needs.{needs}
+use borrow.Author.Tests.{eq-eqb, ne-eqb}
+use native.Mathlib.Omega.{arith}
+use mathlib.Core.Bool.{cond}
+use mathlib.Core.List.{List, [], _∷_, _++_}
+use mathlib.Core.Logic.{⊎-elim}
+use mathlib.Core.Path.{_≡_}
+use lib.Dec.{eqb}
+use lib.Pow.{shr-shr}
+use Rattle.letters.specs.Letter.{bitAt}
+use Rattle.text.specs.Bounds.{decimal}
+use Rattle.text.specs.Bytes.{bytes}
+use Rattle.report.specs.inner.Puts.{Puts, Countable}
+use Rattle.report.specs.Report.{rowNumbers, spaced}
+use Rattle.report.proofs.Puts.{Putting, putting-start, putting-on, putting-end}
+use Rattle.report.proofs.Puts.{putting-length, putting-countable}
+use Rattle.report.proofs.Puts.{puts-append, countable-front, countable-after}
+use Rattle.report.proofs.put.row_numbers.Statement.{statement}
+use Rattle.report.proofs.put.row_numbers.Tie as tie
+
+-- The numbers from bit r on.
+abbrev left : ℕ → ℕ → ℕ → List ℕ
+left rows set r = spaced (rowNumbers (rows - r) r set)
+
+record Done (out₀ : List ℕ) (at rows set : ℕ) (out : List ℕ) (next bits row : ℕ) : Type 0 where
+  pub putting : Putting at (spaced (rowNumbers rows 0 set)) out₀ next (left rows set (row - 1)) out
+  pub bits-are : bits ≡ set / 2 ^ (row - 1)
+  pub some : 1 ≤ row
+
+done-start : (out : List ℕ) (at rows set : ℕ) → Done out at rows set out at set 1
+done-start out at rows set =
+    let all : rows - 0 ≡ rows = omega arith in
+    let whole : set ≡ set / 2 ^ 0 = omega arith in
+    record { putting = rw all (putting-start at _ out); bits-are = whole; some = omega arith }
+
+module _ {out₀ : List ℕ} {at rows set : ℕ} {out : List ℕ} {next bits row : ℕ}
+    (done : Done out₀ at rows set out next bits row) where
+  bit-here : bitAt set (row - 1) ≡ eqb (bits % 2) 1
+  unfolding bitAt
+  bit-here = rw (done .bits-are)
+
+  -- What is put for the row, where it is in the set.
+  abbrev numbered : List ℕ
+  numbered = bytes " " ++ decimal row
+
+  module _ (low : row ≤ rows) where
+    left-more : left rows set (row - 1) ≡ spaced (cond (eqb (bits % 2) 1)
+        (row ∷ rowNumbers (rows - row) row set) (rowNumbers (rows - row) row set))
+    unfolding rowNumbers
+    left-more =
+        let some : rows - (row - 1) ≡ suc (rows - row) = omega arith in
+        let here : suc (row - 1) ≡ row = omega (arith, done .some) in
+        rw (some, bit-here, here)
+
+    left-on : bits % 2 ≡ 1 → left rows set (row - 1) ≡ numbered ++ left rows set (row + 1 - 1)
+    unfolding spaced
+    left-on e =
+        let after : row + 1 - 1 ≡ row = omega arith in
+        rw (left-more, eq-eqb (bits % 2) 1 e, after)
+
+    left-off : (bits % 2 ≡ 1 → ⊥) → left rows set (row - 1) ≡ left rows set (row + 1 - 1)
+    left-off e =
+        let after : row + 1 - 1 ≡ row = omega arith in
+        rw (left-more, ne-eqb (bits % 2) 1 e, after)
+
+    next-bits : bits / 2 ≡ set / 2 ^ (row + 1 - 1)
+    next-bits =
+        let after : row + 1 - 1 ≡ row - 1 + 1 = omega (arith, done .some) in
+        rw (done .bits-are, after) (shr-shr set (row - 1) 1)
+
+    done-on : {after : ℕ} {exit : List ℕ} → bits % 2 ≡ 1 → Puts next numbered out after exit
+        → Done out₀ at rows set exit after (bits / 2) (row + 1)
+    done-on e puts = record {
+      putting = putting-on (done .putting) numbered _ (left-on e) puts;
+      bits-are = next-bits;
+      some = omega arith;
+    }
+
+    done-off : (bits % 2 ≡ 1 → ⊥) → Done out₀ at rows set out next (bits / 2) (row + 1)
+    done-off e = record {
+      putting = rw (left-off e) at (done .putting);
+      bits-are = next-bits;
+      some = omega arith;
+    }
+
+    number-countable : bits % 2 ≡ 1 → Countable at (spaced (rowNumbers rows 0 set))
+        → Countable next numbered
+    number-countable e = putting-countable (done .putting) numbered _ (left-on e)
+
+  none-left : rows + 1 ≤ row → left rows set (row - 1) ≡ []
+  unfolding rowNumbers spaced
+  none-left h = let none : rows - (row - 1) ≡ 0 = omega arith in rw none
+
+abbrev Inv-loop : tie.InvT-loop
+Inv-loop out₀ at rows set next₀ bits₀ row₀ out next bits row =
+    Done out₀ at rows set out next bits row
+
+abbrev μ-loop : tie.MeasureT-loop
+μ-loop out₀ at rows set next₀ bits₀ row₀ out next bits row = rows + 1 - row
+
+loop-holds : tie.Need-loop-holds Inv-loop μ-loop
+loop-holds c = done-start _ _ _ _
+
+-- The number of a row in the set is not too far behind.
+listed-countable : (c : tie.Then1 Inv-loop μ-loop) → Countable (c .before .before .loop .next)
+    (bytes " " ++ decimal (c .before .before .loop .row))
+listed-countable c =
+    let test = c .before in
+    let loop = test .before in
+    number-countable (loop .loop .inv) (omega (arith, test .loop-test .taken)) (c .if1 .taken)
+    (loop .before .before .pre)
+
+byte-requires : tie.Need-byte-requires Inv-loop μ-loop
+byte-requires c κs = countable-front _ _ _ (listed-countable (c .before))
+
+decimal-requires : tie.Need-decimal-requires Inv-loop μ-loop
+decimal-requires c κs =
+    let space = c .before .before .before in
+    countable-after (space .byte .ensures) _ (listed-countable (space .before .before))
+
+loop-again : tie.Need-loop-again Inv-loop μ-loop
+loop-again c =
+    let test = c .before in
+    let loop = test .before .loop in
+    let low : loop .row ≤ test .before .before .before .args .rows =
+    omega (arith, test .loop-test .taken) in
+    ⊎-elim
+    (λ w. rw (w .9, w .10) (done-on (loop .inv) low (w .0 .taken)
+    (puts-append (w .2 .ensures) (w .6 .ensures))))
+    (λ w. rw (w .1, w .2) (done-off (loop .inv) low (w .0 .left)))
+    (c .if1 .came)
+
+same-length : tie.Need-same-length Inv-loop μ-loop
+same-length c = putting-length (c .before .loop .inv .putting)
+
+returns : tie.Need-returns Inv-loop μ-loop
+returns c = putting-end (c .before .loop .inv .putting) (none-left (c .before .loop .inv)
+    (omega (arith, c .loop-test .left)))
+
+pub row-numbers-spec : {M : Type 1} → statement M
+row-numbers-spec =
+    tie.close (tie.spec
+    Inv-loop μ-loop loop-holds byte-requires decimal-requires (λ c. search needs)
+    (λ c. search needs) loop-again same-length returns)
