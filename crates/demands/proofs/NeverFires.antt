@@ -2,18 +2,17 @@
 -- nothing.
 use Prim.Native.Nat.{ℕ, _<_, _≤_, _^_}
 use native.Mathlib.Omega.{arith}
-use mathlib.Core.Bool.{Bool, true, false, not, false≢true}
+use mathlib.Core.Bool.{Bool, true, false, not}
 use mathlib.Core.List.{List}
 use mathlib.Core.Logic.{_↔_}
 use mathlib.Core.Path.{_≡_, refl, sym, ap, _∙_}
 use borrow.Author.Tests.{not-true}
 use lib.ListN.{length}
-use Rattle.letters.specs.Letter.{bitAt, setOf}
+use Rattle.letters.specs.Letter.{bitAt}
 use Rattle.letters.proofs.Bits.{bits-below, bit-place}
 use Rattle.letters.proofs.Sets.{in-setOf, setOf-lt, set-ext}
 use Rattle.table.specs.declared.Row.{Row}
-use Rattle.traces.specs.System.{System}
-use Rattle.traces.specs.inner.Entries.{Entries, Finished}
+use Rattle.traces.specs.inner.Entries.{Entries}
 use Rattle.traces.specs.inner.Explore.{listed, explore}
 use Rattle.traces.specs.inner.Passing.{somePasses}
 use Rattle.traces.proofs.Explore.{explore-finished}
