@@ -13,7 +13,7 @@ use Rattle.search.specs.inner.Computed.{searchAnswer}
 use Rattle.checker.specs.inner.Computed.{checkAnswer}
 use Rattle.demands.specs.examples.Cases.{P as rowP, Q as rowQ, S as rowS, report, delayed}
 use Rattle.demands.specs.examples.Cases.{isRight, noRows}
-use Rattle.demands.specs.examples.Cases.{ListCaseMeans, listCases}
+use Rattle.demands.specs.examples.Cases.{ListCaseMeans, listCases, pressedCase}
 use Rattle.demands.specs.examples.Cases.{starred, CaseMeans, EventCaseMeans, eventCases}
 use Rattle.demands.specs.examples.Texts.{textP, textNotC, textQ, textS, textDelayed}
 use Rattle.demands.specs.examples.Texts.{fileOf, ReadAs}
@@ -31,12 +31,16 @@ starred-right = Starred.starred-right
 pub starred-means : (i : ℕ) → i < length starred → CaseMeans (getD starred i (after rowP [] 0))
 starred-means = Starred.starred-means
 
--- The cases of document 02, ask 1, and tables with their rows that never fire (ask 2).
+-- The cases of document 02, asks 1 and 4, and tables with their rows that never fire (ask 2).
 pub events-worked : All EventCaseMeans eventCases
 events-worked = Starred.events-worked
 
 pub lists-worked : All ListCaseMeans listCases
 lists-worked = Starred.lists-worked
+
+-- A table that is trapped since a trigger may begin again as it aborts (ask 4).
+pub pressed-means : CaseMeans pressedCase
+pressed-means = Starred.pressed-means
 
 -- Their rows are those that the reader makes of the texts; and "A whole report" is, to the byte,
 -- what is reported of its input, in all lent memory that holds two states and a letter.

@@ -20,9 +20,10 @@ use Rattle.traces.specs.inner.Judgement.Judgement.{tooMany, sound, trapped}
 use Rattle.traces.specs.inner.Judgement.RightJudgement.{tooMany-right, sound-right, trapped-right}
 use Rattle.traces.proofs.Judgement.{judge-right}
 use Rattle.step.specs.Phase.{isBroken}
-use Rattle.step.specs.Step.{actionCheck, delayCheck, triggerCheck, stepRow}
+use Rattle.step.specs.Step.{actionCheck, delayCheck, triggerCheck, startCheck, stepRow}
 use Rattle.step.specs.Tick.{tick, tableSystem}
-use Rattle.step.specs.Events.{actionEvents, delayEvents, triggerEvents, rowEvents, tickEvents}
+use Rattle.step.specs.Events.{actionEvents, delayEvents, triggerEvents, startEvents, rowEvents}
+use Rattle.step.specs.Events.{tickEvents}
 use Rattle.step.specs.inner.Firing.{firesAt}
 use Rattle.step.proofs.Systems.{table-lawful}
 use Rattle.scratch.specs.inner.Same.{kindOf, elapsed, samePhase, samePhases}
@@ -52,20 +53,20 @@ right-of rows room =
 
 alone-answers : judge (tableSystem 2 (P ∷ [])) samePhases 2 ≡ sound 2
 unfolding judge verdictFrom lostWithin breaksIn passBelow explore visit enter has samePhases
-    samePhase kindOf elapsed tick stepRow triggerCheck delayCheck actionCheck bitAt setOf some
-    isBroken
+    samePhase kindOf elapsed tick stepRow startCheck triggerCheck delayCheck actionCheck bitAt setOf
+    some isBroken
 alone-answers = refl
 
 alone-crowded : judge (tableSystem 2 (P ∷ [])) samePhases 1 ≡ tooMany
 unfolding judge verdictFrom lostWithin breaksIn passBelow explore visit enter has samePhases
-    samePhase kindOf elapsed tick stepRow triggerCheck delayCheck actionCheck bitAt setOf some
-    isBroken
+    samePhase kindOf elapsed tick stepRow startCheck triggerCheck delayCheck actionCheck bitAt setOf
+    some isBroken
 alone-crowded = refl
 
 alone-right : RightLists 2 (P ∷ []) noRows
-unfolding explore visit enter has samePhases samePhase kindOf elapsed tick stepRow triggerCheck
-    delayCheck actionCheck bitAt setOf some isBroken neverWithin somePasses someBelow firesAt
-    tickEvents rowEvents triggerEvents delayEvents actionEvents
+unfolding explore visit enter has samePhases samePhase kindOf elapsed tick stepRow startCheck
+    triggerCheck delayCheck actionCheck bitAt setOf some isBroken neverWithin somePasses someBelow
+    firesAt tickEvents rowEvents startEvents triggerEvents delayEvents actionEvents
 alone-right = computed-right (P ∷ []) 2 0 (lit≤ tt) refl
 
 -- P alone, as the reader gives it.

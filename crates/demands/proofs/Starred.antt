@@ -27,8 +27,8 @@ use Rattle.traces.specs.inner.Judgement.RightJudgement.{trapped-right}
 use Rattle.traces.proofs.Explore.{explore-fits}
 use Rattle.traces.proofs.Judgement.{judge-right}
 use Rattle.step.specs.Phase.{codeOf, isBroken}
-use Rattle.step.specs.Step.{actionCheck, delayCheck, triggerCheck, stepRow}
-use Rattle.step.specs.Events.{actionEvents, delayEvents, triggerEvents, rowEvents}
+use Rattle.step.specs.Step.{actionCheck, delayCheck, triggerCheck, startCheck, stepRow}
+use Rattle.step.specs.Events.{actionEvents, delayEvents, triggerEvents, startEvents, rowEvents}
 use Rattle.step.specs.Events.{tickEvents}
 use Rattle.step.specs.inner.Firing.{firesAt}
 use Rattle.step.specs.Tick.{tick, tableSystem}
@@ -40,7 +40,7 @@ use Rattle.search.specs.inner.Computed.{neverWithin, judged, searchAnswer}
 use Rattle.scratch.proofs.Same.{phases-decided}
 use Rattle.demands.specs.examples.Cases.{P, Case, CaseMeans, trappedWith, isRight, starred}
 use Rattle.demands.specs.examples.Cases.{report, delayed, EventCaseMeans, eventCases}
-use Rattle.demands.specs.examples.Cases.{noRows, ListCaseMeans, listCases}
+use Rattle.demands.specs.examples.Cases.{noRows, ListCaseMeans, listCases, pressedCase}
 use Rattle.demands.specs.examples.Cases.Case.{after, traps}
 use Rattle.demands.specs.inner.Answers.{withEntries, listsIn}
 use Rattle.demands.specs.Searching.{Fit, RightLists}
@@ -49,36 +49,40 @@ use Rattle.demands.proofs.Described.{entries-entered, lists-right}
 use Rattle.demands.proofs.NeverFires.{never-right, lists-only}
 
 pub starred-right : every isRight starred ≡ true
-unfolding every isRight starred run codeOf stepRow triggerCheck delayCheck actionCheck bitAt setOf
-    trappedWith judge verdictFrom lostWithin breaksIn passBelow traceOf back explore visit enter
-    has samePhases samePhase kindOf elapsed tick some isBroken sameBytes neverWithin somePasses
-    someBelow firesAt tickEvents rowEvents triggerEvents delayEvents actionEvents
+unfolding every isRight starred run codeOf stepRow startCheck triggerCheck delayCheck actionCheck
+    bitAt setOf trappedWith judge verdictFrom lostWithin breaksIn passBelow traceOf back explore
+    visit enter has samePhases samePhase kindOf elapsed tick some isBroken sameBytes neverWithin
+    somePasses someBelow firesAt tickEvents rowEvents startEvents triggerEvents delayEvents
+    actionEvents
 starred-right = refl
 
--- What is computed with enough room is right; and so the lists of the cases of ask 2.
+-- What is computed with enough room is right; and so the lists of the cases of asks 2 and 4.
 pub computed-right : (rows : List Row) (room never : ℕ)
     → length (explore (tableSystem 2 rows) samePhases room) ≤ room
     → neverWithin room 2 rows ≡ never → RightLists 2 rows (record { never = never })
 computed-right rows room never few is = rw is at (never-right 2 rows room few)
 
 pub lists-worked : All ListCaseMeans listCases
-unfolding listCases run codeOf stepRow triggerCheck delayCheck actionCheck bitAt setOf explore visit
-    enter has samePhases samePhase kindOf elapsed tick some isBroken neverWithin somePasses
-    someBelow firesAt tickEvents rowEvents triggerEvents delayEvents actionEvents
+unfolding listCases run codeOf stepRow startCheck triggerCheck delayCheck actionCheck bitAt setOf
+    explore visit enter has samePhases samePhase kindOf elapsed tick some isBroken neverWithin
+    somePasses someBelow firesAt tickEvents rowEvents startEvents triggerEvents delayEvents
+    actionEvents
 lists-worked =
     and (computed-right _ 8 _ (lit≤ tt) refl) (and (computed-right _ 8 _ (lit≤ tt) refl)
     (and (computed-right _ 8 _ (lit≤ tt) refl) (and (computed-right _ 8 _ (lit≤ tt) refl)
     (and (computed-right _ 8 _ (lit≤ tt) refl) (and (computed-right _ 8 _ (lit≤ tt) refl)
-    none)))))
+    (and (computed-right _ 8 _ (lit≤ tt) refl) (and (computed-right _ 8 _ (lit≤ tt) refl)
+    none)))))))
 
--- What happened in the cases of ask 1.
+-- What happened in the cases of asks 1 and 4.
 pub events-worked : All EventCaseMeans eventCases
-unfolding eventCases run codeOf stepRow triggerCheck delayCheck actionCheck bitAt setOf rowEvents
-    triggerEvents delayEvents actionEvents
+unfolding eventCases run codeOf stepRow startCheck triggerCheck delayCheck actionCheck bitAt setOf
+    rowEvents startEvents triggerEvents delayEvents actionEvents
 events-worked =
     and (refl, refl) (and (refl, refl) (and (refl, refl) (and (refl, refl) (and (refl, refl)
     (and (refl, refl) (and (refl, refl) (and (refl, refl) (and (refl, refl) (and (refl, refl)
-    none)))))))))
+    (and (refl, refl) (and (refl, refl) (and (refl, refl) (and (refl, refl) (and (refl, refl)
+    none))))))))))))))
 
 -- The test of an answer tells what it is.
 trapped-is : (w : List ℕ) (k n : ℕ) (r : Judgement) → trappedWith w k n r ≡ true → r ≡ trapped n w k
@@ -175,6 +179,17 @@ right-means (traps rows w k n) h = table-means rows w k n h
 -- So each starred case holds, and of a table it holds at every room that holds the states.
 pub starred-means : (i : ℕ) → i < length starred → CaseMeans (getD starred i (after P [] 0))
 starred-means i h = right-means _ (every-at isRight starred i (after P [] 0) starred-right h)
+
+-- The table of ask 4.
+pressed-right : isRight pressedCase ≡ true
+unfolding isRight run stepRow startCheck triggerCheck delayCheck actionCheck bitAt setOf
+    trappedWith judge verdictFrom lostWithin breaksIn passBelow traceOf back explore visit enter
+    has samePhases samePhase kindOf elapsed tick some isBroken sameBytes neverWithin somePasses
+    someBelow firesAt tickEvents rowEvents startEvents triggerEvents delayEvents actionEvents
+pressed-right = refl
+
+pub pressed-means : CaseMeans pressedCase
+pressed-means = right-means pressedCase pressed-right
 
 -- "The report's table: trapped, trace 1, lost 1, two states."
 pub report-right : (room : ℕ) → 2 ≤ room

@@ -10,12 +10,13 @@ use Rattle.step.specs.declared.Stepped.{Stepped}
 use Rattle.step.specs.declared.Check.{Check}
 use Rattle.step.specs.declared.Check.the-variants.{Done, Continue, Fail}
 use Rattle.step.specs.Step.{actionCheck, delayCheck, triggerCheck}
-use Rattle.step.specs.Events.{noEvents, onlyAborted, onlyCompleted, onlyBroken}
+use Rattle.step.specs.Events.{noEvents, onlyCompleted, onlyBroken}
 use Rattle.step.specs.Events.{withRealised, withActing, steppedTo}
 use Rattle.step.specs.Events.{actionEvents, delayEvents, triggerEvents}
 use Rattle.step.specs.inner.Check.{checkOf}
 
--- What each check makes of the shared one; `next` is what follows a phase that is done.
+-- What each check makes of the shared one; `next` is what follows a phase that is done, `lapsed`
+-- what follows a trigger that is aborted.
 unfoldable pub actionEnds : Check → Stepped
 actionEnds Done = steppedTo Waiting onlyCompleted
 actionEnds (Continue n) = steppedTo (Action n) noEvents
@@ -26,10 +27,10 @@ delayEnds next Done = next
 delayEnds next (Continue n) = steppedTo (Delay n) noEvents
 delayEnds next Fail = steppedTo Broken onlyBroken
 
-unfoldable pub triggerEnds : Stepped → Check → Stepped
-triggerEnds next Done = next
-triggerEnds next (Continue n) = steppedTo (Trigger n) noEvents
-triggerEnds next Fail = steppedTo Waiting onlyAborted
+unfoldable pub triggerEnds : Stepped → Stepped → Check → Stepped
+triggerEnds next lapsed Done = next
+triggerEnds next lapsed (Continue n) = steppedTo (Trigger n) noEvents
+triggerEnds next lapsed Fail = lapsed
 
 -- Choices of phases and of events are what a check's ending gives of the choice of endings.
 ends : (f : Check → Stepped) (a b : Bool) (n : ℕ)
@@ -65,10 +66,12 @@ module _ (row : Row) (letter t : ℕ) where
       ends (delayEnds (actionStarts row letter)) (holds row ase letter && leb (row .lmin) t)
       (ltb t (row .lmax)) (t + 1)
 
-  pub trigger-ends : steppedTo (triggerCheck row letter t) (triggerEvents row letter t) ≡
-      triggerEnds (delayStarts row letter)
+  pub trigger-ends : (lapsed : Stepped)
+      → steppedTo (triggerCheck row letter t (lapsed .phase))
+      (triggerEvents row letter t (lapsed .events))
+      ≡ triggerEnds (delayStarts row letter) lapsed
       (checkOf (holds row tee letter) (holds row tc letter) (row .tmin) (row .tmax) t)
   unfolding triggerCheck triggerEvents triggerEnds
-  trigger-ends =
-      ends (triggerEnds (delayStarts row letter)) (holds row tee letter && leb (row .tmin) t)
-      (holds row tc letter && ltb t (row .tmax)) (t + 1)
+  trigger-ends lapsed =
+      ends (triggerEnds (delayStarts row letter) lapsed)
+      (holds row tee letter && leb (row .tmin) t) (holds row tc letter && ltb t (row .tmax)) (t + 1)

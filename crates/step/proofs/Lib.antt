@@ -1,10 +1,12 @@
--- `Checks` serves the functions' proofs; `Codes`, `States`, `Rows`, `Systems` and `RowEvents` are
--- laws of the step rules.
+-- `Checks` serves the functions' proofs; all others are laws of the step rules.
 pub mod Checks
 pub mod Codes
 pub mod States
 pub mod Rows
 pub mod Systems
+pub mod Pressed
 pub mod RowEvents
+pub mod Marks
 pub mod Happened
+pub mod Restarts
 pub mod Firing

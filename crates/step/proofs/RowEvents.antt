@@ -3,30 +3,32 @@
 use Prim.Native.Nat.{ℕ, zero, suc, _+_, _≤_, _<_}
 use native.Mathlib.Omega.{arith}
 use mathlib.Core.Bool.{Bool, true, false, _&&_, not, cond, true≢false}
-use mathlib.Core.List.{List, [], _∷_, map}
+use mathlib.Core.List.{List, [], _∷_}
 use mathlib.Core.Logic.{_⊎_, inl, inr}
 use mathlib.Core.Path.{_≡_, refl, sym, ap, _∙_}
 use lib.Dec.{leb, ltb}
 use lib.ListN.{length, getD}
 use Rattle.letters.specs.Letter.{bit}
-use Rattle.table.specs.Row.{holds, tse, tc, tee, ase, ac, aee, noRow}
+use Rattle.table.specs.Row.{holds, tse, ase, ac, aee, noRow}
 use Rattle.table.specs.declared.Row.{Row}
 use Rattle.step.specs.declared.Phase.{Phase}
 use Rattle.step.specs.declared.Phase.the-variants.{Waiting, Trigger, Delay, Action, Broken}
 use Rattle.step.specs.declared.Events.{Events}
 use Rattle.step.specs.Phase.{isBroken}
 use Rattle.step.specs.Valid.{isWaiting}
-use Rattle.step.specs.Step.{actionCheck, delayCheck, triggerCheck, stepRow}
-use Rattle.step.specs.Events.{noEvents, onlyAborted, onlyCompleted, onlyBroken, isOpen}
-use Rattle.step.specs.Events.{withStarted, withRealised, withActing}
-use Rattle.step.specs.Events.{actionEvents, delayEvents, triggerEvents, rowEvents}
+use Rattle.step.specs.Step.{actionCheck, delayCheck, triggerCheck, startCheck, stepRow}
+use Rattle.step.specs.Events.{eventsOf, noEvents, onlyAborted, onlyCompleted, onlyBroken}
+use Rattle.step.specs.Events.{isOpen, withStarted, withRealised, withActing}
+use Rattle.step.specs.Events.{actionEvents, delayEvents, triggerEvents, startEvents}
+use Rattle.step.specs.Events.{rowEvents}
 use Rattle.step.specs.Events.{tickEvents, traceEvents, Event, happens, timesOf}
 use Rattle.step.specs.Tick.{tick}
 use Rattle.step.specs.further.Happened.{OneEnd}
+use Rattle.step.proofs.Pressed.{triggerDone, triggerOn, abortPhase, abortEvents}
+use Rattle.step.proofs.Pressed.{trigger-phase, trigger-events}
 
 -- What the events of a check say of the phase that it leads to, where the row was open or not.
 record Ends (was : Bool) (phase : Phase) (e : Events) : Type 0 where
-  pub started : e .started ≡ false
   pub broken : e .broken ≡ isBroken phase
   pub sums : bit (e .realised) + bit was
       ≡ bit (e .completed) + bit (e .broken) + bit (isOpen phase)
@@ -41,7 +43,6 @@ record Acts (phase : Phase) (e : Events) : Type 0 where
 ends-on : {was : Bool} {phase : Phase} → isWaiting phase ≡ false → isBroken phase ≡ false
     → isOpen phase ≡ was → Ends was phase noEvents
 ends-on waits broken is = record {
-  started = refl;
   broken = sym broken;
   sums = rw is;
   waits = λ h. absurd (true≢false (sym h ∙ waits));
@@ -54,12 +55,7 @@ acts-on waits broken is = record { ends = ends-on waits broken is; realised = re
 acts-broken : Acts Broken onlyBroken
 unfolding isBroken isWaiting isOpen
 acts-broken = record {
-  ends = record {
-    started = refl;
-    broken = refl;
-    sums = refl;
-    waits = λ h. absurd (true≢false (sym h));
-  };
+  ends = record { broken = refl; sums = refl; waits = λ h. absurd (true≢false (sym h)) };
   realised = refl;
 }
 
@@ -72,7 +68,7 @@ module _ (row : Row) (letter : ℕ) where
       go : (done on : Bool) → Acts (cond done Waiting (cond on (Action (a + 1)) Broken))
           (cond done onlyCompleted (cond on noEvents onlyBroken))
       go true on = record {
-        ends = record { started = refl; broken = refl; sums = refl; waits = λ _. inr (refl, refl) };
+        ends = record { broken = refl; sums = refl; waits = λ _. inr (refl, refl) };
         realised = refl;
       }
       go false true = acts-on refl refl refl
@@ -87,7 +83,6 @@ module _ (row : Row) (letter : ℕ) where
           let acts = action-acts 0 in
           record {
             ends = record {
-              started = acts .ends .started;
               broken = acts .ends .broken;
               sums = acts .ends .sums;
               waits = acts .ends .waits;
@@ -102,54 +97,65 @@ module _ (row : Row) (letter : ℕ) where
       go false true = acts-on refl refl refl
       go false false = acts-broken
 
-  trigger-ends : (t : ℕ) → Ends false (triggerCheck row letter t) (triggerEvents row letter t)
-  unfolding triggerCheck triggerEvents isBroken isWaiting isOpen
-  trigger-ends t = go (holds row tee letter && leb (row .tmin) t)
-      (holds row tc letter && ltb t (row .tmax))
+  -- So it is of the trigger check, where it is so of what an abort leads to.
+  trigger-ends : (t : ℕ) (aborted : Phase) (e : Events) → Ends false aborted e
+      → Ends false (cond (triggerDone row letter t) (delayCheck row letter 0)
+      (cond (triggerOn row letter t) (Trigger (t + 1)) aborted))
+      (cond (triggerDone row letter t) (withRealised (delayEvents row letter 0))
+      (cond (triggerOn row letter t) noEvents e))
+  unfolding isBroken isWaiting isOpen
+  trigger-ends t aborted e ends = go (triggerDone row letter t) (triggerOn row letter t)
     where
       next : Ends false (delayCheck row letter 0) (withRealised (delayEvents row letter 0))
       next =
           let acts = delay-acts 0 in
           record {
-            started = acts .ends .started;
             broken = acts .ends .broken;
             sums = rw (acts .realised) at (acts .ends .sums);
             waits = acts .ends .waits;
           }
 
       go : (done on : Bool)
-          → Ends false (cond done (delayCheck row letter 0) (cond on (Trigger (t + 1)) Waiting))
-          (cond done (withRealised (delayEvents row letter 0)) (cond on noEvents onlyAborted))
+          → Ends false (cond done (delayCheck row letter 0) (cond on (Trigger (t + 1)) aborted))
+          (cond done (withRealised (delayEvents row letter 0)) (cond on noEvents e))
       go true on = next
       go false true = ends-on refl refl refl
-      go false false =
-          record { started = refl; broken = refl; sums = refl; waits = λ _. inl (refl, refl) }
+      go false false = ends
 
-  -- The trigger starts exactly when the row waits and TSE holds.
-  pub started-exactly : (phase : Phase)
-      → rowEvents row letter phase .started ≡ (isWaiting phase && holds row tse letter)
-  unfolding rowEvents isWaiting
-  started-exactly Waiting = go (holds row tse letter)
+  start-ends : Ends false (triggerCheck row letter 0 Waiting)
+      (triggerEvents row letter 0 onlyAborted)
+  unfolding triggerCheck triggerEvents isBroken isWaiting isOpen
+  start-ends =
+      trigger-ends 0 Waiting onlyAborted
+      (record { broken = refl; sums = refl; waits = λ _. inl (refl, refl) })
+
+  running-ends : (t : ℕ)
+      → Ends false (stepRow row letter (Trigger t)) (rowEvents row letter (Trigger t))
+  unfolding isBroken isWaiting isOpen
+  running-ends t =
+      rw (trigger-phase row letter t, trigger-events row letter t)
+      (trigger-ends t (abortPhase row letter) (abortEvents row letter)
+      (lapses (holds row tse letter) (holds row tse letter && triggerOn row letter 0)))
     where
-      go : (b : Bool) → cond b (withStarted (triggerEvents row letter 0)) noEvents .started ≡ b
-      go true = refl
-      go false = refl
-  started-exactly (Trigger t) = trigger-ends t .started
-  started-exactly (Delay d) = delay-acts d .ends .started
-  started-exactly (Action a) = action-acts a .ends .started
-  started-exactly Broken = refl
+      lapses : (started on : Bool)
+          → Ends false (cond on (Trigger 1) Waiting)
+          (eventsOf started false true false false false)
+      lapses started true =
+          record { broken = refl; sums = refl; waits = λ h. absurd (true≢false (sym h)) }
+      lapses started false = record { broken = refl; sums = refl; waits = λ _. inl (refl, refl) }
 
   -- A row becomes broken exactly when it is not before and is after.
   pub broken-exactly : (phase : Phase) → rowEvents row letter phase .broken
       ≡ (not (isBroken phase) && isBroken (stepRow row letter phase))
-  unfolding rowEvents stepRow isBroken
+  unfolding rowEvents stepRow startCheck startEvents isBroken
   broken-exactly Waiting = go (holds row tse letter)
     where
-      go : (b : Bool) → cond b (withStarted (triggerEvents row letter 0)) noEvents .broken
-          ≡ isBroken (cond b (triggerCheck row letter 0) Waiting)
-      go true = trigger-ends 0 .broken
+      go : (b : Bool)
+          → cond b (withStarted (triggerEvents row letter 0 onlyAborted)) noEvents .broken
+          ≡ isBroken (cond b (triggerCheck row letter 0 Waiting) Waiting)
+      go true = start-ends .broken
       go false = refl
-  broken-exactly (Trigger t) = trigger-ends t .broken
+  broken-exactly (Trigger t) = running-ends t .broken
   broken-exactly (Delay d) = delay-acts d .ends .broken
   broken-exactly (Action a) = action-acts a .ends .broken
   broken-exactly Broken = refl
@@ -159,16 +165,16 @@ module _ (row : Row) (letter : ℕ) where
   pub waiting-after : (phase : Phase) → isWaiting (stepRow row letter phase) ≡ true
       → ((isWaiting phase ≡ true) × (holds row tse letter ≡ false)
       × (rowEvents row letter phase ≡ noEvents)) ⊎ OneEnd (rowEvents row letter phase)
-  unfolding rowEvents stepRow isWaiting
+  unfolding rowEvents stepRow startCheck startEvents isWaiting
   waiting-after Waiting h = go (holds row tse letter) h
     where
-      go : (b : Bool) → isWaiting (cond b (triggerCheck row letter 0) Waiting) ≡ true
+      go : (b : Bool) → isWaiting (cond b (triggerCheck row letter 0 Waiting) Waiting) ≡ true
           → ((true ≡ true) × (b ≡ false)
-          × (cond b (withStarted (triggerEvents row letter 0)) noEvents ≡ noEvents))
-          ⊎ OneEnd (cond b (withStarted (triggerEvents row letter 0)) noEvents)
-      go true h = inr (trigger-ends 0 .waits h)
+          × (cond b (withStarted (triggerEvents row letter 0 onlyAborted)) noEvents ≡ noEvents))
+          ⊎ OneEnd (cond b (withStarted (triggerEvents row letter 0 onlyAborted)) noEvents)
+      go true h = inr (start-ends .waits h)
       go false h = inl (refl, refl, refl)
-  waiting-after (Trigger t) h = inr (trigger-ends t .waits h)
+  waiting-after (Trigger t) h = inr (running-ends t .waits h)
   waiting-after (Delay d) h = inr (delay-acts d .ends .waits h)
   waiting-after (Action a) h = inr (action-acts a .ends .waits h)
   waiting-after Broken h = absurd (true≢false (sym h))
@@ -177,16 +183,17 @@ module _ (row : Row) (letter : ℕ) where
   pub open-sums : (phase : Phase) → let e = rowEvents row letter phase in
       bit (e .realised) + bit (isOpen phase)
       ≡ bit (e .completed) + bit (e .broken) + bit (isOpen (stepRow row letter phase))
-  unfolding rowEvents stepRow isOpen
+  unfolding rowEvents stepRow startCheck startEvents isOpen
   open-sums Waiting = go (holds row tse letter)
     where
-      go : (b : Bool) → let e = cond b (withStarted (triggerEvents row letter 0)) noEvents in
+      go : (b : Bool)
+          → let e = cond b (withStarted (triggerEvents row letter 0 onlyAborted)) noEvents in
           bit (e .realised) + bit false
           ≡ bit (e .completed) + bit (e .broken)
-          + bit (isOpen (cond b (triggerCheck row letter 0) Waiting))
-      go true = trigger-ends 0 .sums
+          + bit (isOpen (cond b (triggerCheck row letter 0 Waiting) Waiting))
+      go true = start-ends .sums
       go false = refl
-  open-sums (Trigger t) = trigger-ends t .sums
+  open-sums (Trigger t) = running-ends t .sums
   open-sums (Delay d) = delay-acts d .ends .sums
   open-sums (Action a) = action-acts a .ends .sums
   open-sums Broken = refl

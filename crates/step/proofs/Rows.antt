@@ -1,20 +1,20 @@
 -- What a letter does to one row, and to rows of any number. Assumes nothing.
 use Prim.Native.Nat.{ℕ, zero, suc, _+_, _<_, _≤_}
 use native.Mathlib.Omega.{arith}
-use mathlib.Core.Bool.{Bool, true, false, _&&_, _||_, cond, or-true}
+use mathlib.Core.Bool.{Bool, true, false, _&&_, _||_, cond, or-true, true≢false}
 use mathlib.Core.List.{List, [], _∷_}
-use mathlib.Core.Path.{_≡_, refl, ap}
+use mathlib.Core.Path.{_≡_, refl, sym, ap}
 use borrow.Author.Tests.{ltb-true}
 use lib.Dec.{leb, ltb}
 use lib.ListN.{length, getD}
-use Rattle.letters.proofs.Lists.{and-right, within-true}
+use Rattle.letters.proofs.Lists.{and-left, and-right, within-true}
 use Rattle.letters.specs.Lists.{within, some}
 use Rattle.table.specs.Row.{holds, tse, tc, tee, ase, ac, aee, noRow}
 use Rattle.table.specs.declared.Row.{Row}
 use Rattle.step.specs.declared.Phase.{Phase}
 use Rattle.step.specs.declared.Phase.the-variants.{Waiting, Trigger, Delay, Action, Broken}
 use Rattle.step.specs.Phase.{isBroken}
-use Rattle.step.specs.Step.{actionCheck, delayCheck, triggerCheck, stepRow}
+use Rattle.step.specs.Step.{actionCheck, delayCheck, triggerCheck, startCheck, stepRow}
 use Rattle.step.specs.Tick.{tick, someBroken}
 use Rattle.step.specs.Valid.{phaseValid, phasesValid}
 
@@ -50,20 +50,25 @@ module _ (row : Row) (letter : ℕ) where
       (action-valid 0)
       (λ _. fits-more row true d (row .lmax) (Delay (d + 1)) Broken refl (λ h. h))
 
-  trigger-valid : (t : ℕ) → phaseValid row (triggerCheck row letter t) ≡ true
+  trigger-valid : (t : ℕ) (aborted : Phase) → phaseValid row aborted ≡ true
+      → phaseValid row (triggerCheck row letter t aborted) ≡ true
   unfolding triggerCheck phaseValid
-  trigger-valid t =
+  trigger-valid t aborted fits =
       fits-cond row (holds row tee letter && leb (row .tmin) t) (delayCheck row letter 0) _
       (delay-valid 0)
-      (λ _. fits-more row (holds row tc letter) t (row .tmax) (Trigger (t + 1)) Waiting refl
+      (λ _. fits-more row (holds row tc letter) t (row .tmax) (Trigger (t + 1)) aborted fits
       (λ h. h))
+
+  start-valid : phaseValid row (startCheck row letter) ≡ true
+  unfolding startCheck phaseValid
+  start-valid = fits-cond row (holds row tse letter) (triggerCheck row letter 0 Waiting) Waiting
+      (trigger-valid 0 Waiting refl) (λ _. refl)
 
   -- Whatever the phase was, after a letter number 18 lets it by.
   pub step-valid : (phase : Phase) → phaseValid row (stepRow row letter phase) ≡ true
   unfolding stepRow phaseValid
-  step-valid Waiting = fits-cond row (holds row tse letter) (triggerCheck row letter 0) Waiting
-      (trigger-valid 0) (λ _. refl)
-  step-valid (Trigger t) = trigger-valid t
+  step-valid Waiting = start-valid
+  step-valid (Trigger t) = trigger-valid t (startCheck row letter) start-valid
   step-valid (Delay d) = delay-valid d
   step-valid (Action a) = action-valid a
   step-valid Broken = refl
@@ -117,6 +122,18 @@ tick-valid (row ∷ rows) letter [] h = h
 tick-valid (row ∷ rows) letter (phase ∷ phases) h =
     rw (step-valid row letter phase)
     (tick-valid rows letter phases (and-right (phaseValid row phase) (phasesValid rows phases) h))
+
+-- What number 18 says of a state it says of each row.
+pub valid-at : (rows : List Row) (phases : List Phase) → phasesValid rows phases ≡ true
+    → (i : ℕ) → i < length rows → phaseValid (getD rows i noRow) (getD phases i Waiting) ≡ true
+unfolding phasesValid
+valid-at [] phases h i low = absurd (omega arith)
+valid-at (row ∷ rows) [] h i low = absurd (true≢false (sym h))
+valid-at (row ∷ rows) (phase ∷ phases) h zero low =
+    and-left (phaseValid row phase) (phasesValid rows phases) h
+valid-at (row ∷ rows) (phase ∷ phases) h (suc i) low =
+    valid-at rows phases (and-right (phaseValid row phase) (phasesValid rows phases) h) i
+    (omega arith)
 
 -- A broken row stays broken, whichever it is.
 pub tick-broken : (rows : List Row) (letter : ℕ) (phases : List Phase) → someBroken phases ≡ true

@@ -39,12 +39,15 @@ onlyCompleted = eventsOf false false false false true false
 abbrev pub onlyBroken : Events
 onlyBroken = eventsOf false false false false false true
 
--- What happened, and that the trigger started, was realised, or the action started.
+-- What happened, and that the trigger started, was realised or aborted, or the action started.
 abbrev pub withStarted : Events → Events
 withStarted e = eventsOf true (e .realised) (e .aborted) (e .acting) (e .completed) (e .broken)
 
 abbrev pub withRealised : Events → Events
 withRealised e = eventsOf (e .started) true (e .aborted) (e .acting) (e .completed) (e .broken)
+
+abbrev pub withAborted : Events → Events
+withAborted e = eventsOf (e .started) (e .realised) true (e .acting) (e .completed) (e .broken)
 
 abbrev pub withActing : Events → Events
 withActing e = eventsOf (e .started) (e .realised) (e .aborted) true (e .completed) (e .broken)
@@ -64,19 +67,25 @@ delayEvents row letter d =
     (cond (ltb d (row .lmax)) noEvents onlyBroken)
 
 -- "Trigger check, elapsed t: if TEE holds and t >= Tmin, the trigger is realised: do the delay
--- check with 0 on the same letter. Else if TC holds and t < Tmax: trigger, t + 1. Else waiting
--- (aborted)".
-unfoldable pub triggerEvents : Row → ℕ → ℕ → Events
-triggerEvents row letter t =
+-- check with 0 on the same letter. Else if TC holds and t < Tmax: trigger, t + 1. Else" it is
+-- aborted: what happens at an abort is given.
+unfoldable pub triggerEvents : Row → ℕ → ℕ → Events → Events
+triggerEvents row letter t aborted =
     cond (holds row tee letter && leb (row .tmin) t) (withRealised (delayEvents row letter 0))
-    (cond (holds row tc letter && ltb t (row .tmax)) noEvents onlyAborted)
+    (cond (holds row tc letter && ltb t (row .tmax)) noEvents aborted)
 
--- "Waiting: if TSE holds", the trigger starts: "do the trigger check with 0; else stay waiting." "A
--- row already broken has none."
+-- "Waiting: if TSE holds", the trigger starts: "do the trigger check with 0; else stay waiting."
+unfoldable pub startEvents : Row → ℕ → Events
+startEvents row letter =
+    cond (holds row tse letter) (withStarted (triggerEvents row letter 0 onlyAborted)) noEvents
+
+-- "When a trigger that began at an earlier tick aborts", the letter does to it what it does to a
+-- waiting row: "If both happen, abort and start are both reported." "A row already broken has
+-- none."
 unfoldable pub rowEvents : Row → ℕ → Phase → Events
-rowEvents row letter Waiting =
-    cond (holds row tse letter) (withStarted (triggerEvents row letter 0)) noEvents
-rowEvents row letter (Trigger t) = triggerEvents row letter t
+rowEvents row letter Waiting = startEvents row letter
+rowEvents row letter (Trigger t) =
+    triggerEvents row letter t (withAborted (startEvents row letter))
 rowEvents row letter (Delay d) = delayEvents row letter d
 rowEvents row letter (Action a) = actionEvents row letter a
 rowEvents row letter Broken = noEvents

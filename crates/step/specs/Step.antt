@@ -22,18 +22,25 @@ delayCheck row letter d =
     (cond (ltb d (row .lmax)) (Delay (d + 1)) Broken)
 
 -- "Trigger check, elapsed t: if TEE holds and t >= Tmin, the trigger is realised: do the delay
--- check with 0 on the same letter. Else if TC holds and t < Tmax: trigger, t + 1. Else waiting
--- (aborted); this letter starts no new trigger."
-unfoldable pub triggerCheck : Row → ℕ → ℕ → Phase
-triggerCheck row letter t =
+-- check with 0 on the same letter. Else if TC holds and t < Tmax: trigger, t + 1. Else" it is
+-- aborted: what an abort leads to is given.
+unfoldable pub triggerCheck : Row → ℕ → ℕ → Phase → Phase
+triggerCheck row letter t aborted =
     cond (holds row tee letter && leb (row .tmin) t) (delayCheck row letter 0)
-    (cond (holds row tc letter && ltb t (row .tmax)) (Trigger (t + 1)) Waiting)
+    (cond (holds row tc letter && ltb t (row .tmax)) (Trigger (t + 1)) aborted)
 
--- "Waiting: if TSE holds, do the trigger check with 0; else stay waiting." "A row in a phase does
--- the check of that phase with its elapsed ticks." "Broken stays broken."
+-- "Waiting: if TSE holds, do the trigger check with 0; else stay waiting." "A trigger that aborts
+-- in the tick it began starts no other": it waits.
+unfoldable pub startCheck : Row → ℕ → Phase
+startCheck row letter = cond (holds row tse letter) (triggerCheck row letter 0 Waiting) Waiting
+
+-- "A row in a phase does the check of that phase with its elapsed ticks." Document 02, ask 4: "When
+-- a trigger that began at an earlier tick aborts and TSE holds at that letter, do the trigger check
+-- with 0 on the same letter. If this second check aborts as well, the row waits." So the letter
+-- does to it what it does to a waiting row. "Broken stays broken."
 unfoldable pub stepRow : Row → ℕ → Phase → Phase
-stepRow row letter Waiting = cond (holds row tse letter) (triggerCheck row letter 0) Waiting
-stepRow row letter (Trigger t) = triggerCheck row letter t
+stepRow row letter Waiting = startCheck row letter
+stepRow row letter (Trigger t) = triggerCheck row letter t (startCheck row letter)
 stepRow row letter (Delay d) = delayCheck row letter d
 stepRow row letter (Action a) = actionCheck row letter a
 stepRow row letter Broken = Broken

@@ -1,3 +1,4 @@
 -- What only the further promises speak of.
 pub mod Codes
 pub mod Happened
+pub mod Pressed

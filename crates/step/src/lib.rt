@@ -170,37 +170,45 @@ fn delay_start(row: Row, letter: u8) -> Stepped
     stepped
 }
 
-fn trigger_check(row: Row, letter: u8, t: u8) -> Stepped
-    ensures { λ r. ⌜ r ≡ steppedTo (triggerCheck row letter t) (triggerEvents row letter t) ⌝ }
+// The trigger check; `lapsed` is what a trigger that is aborted makes of the letter.
+fn trigger_check(row: Row, letter: u8, t: u8, lapsed: Stepped) -> Stepped
+    ensures { λ r. ⌜ r ≡ steppedTo (triggerCheck row letter t (lapsed .phase))
+        (triggerEvents row letter t (lapsed .events)) ⌝ }
 {
     let end = letters::contains(row.sets[TEE], letter);
     let hold = letters::contains(row.sets[TC], letter);
     match check_of(end, hold, row.tmin, row.tmax, t) {
         Check::Done => delay_start(row, letter),
         Check::Continue(n) => goes_on(Phase::Trigger(n)),
-        Check::Fail => aborts(),
+        Check::Fail => lapsed,
     }
 }
 
-// What one letter does to a row that waits: the trigger starts if TSE holds.
+// What one letter does to a row that waits: the trigger starts if TSE holds, and waits again where
+// it is aborted at once.
 fn start_check(row: Row, letter: u8) -> Stepped
     ensures { λ r. ⌜ r ≡ stepped row letter Waiting ⌝ }
 {
     if !letters::contains(row.sets[TSE], letter) {
         return goes_on(Phase::Waiting);
     }
-    let mut stepped = trigger_check(row, letter, 0);
+    let mut stepped = trigger_check(row, letter, 0, aborts());
     stepped.events.started = true;
     stepped
 }
 
-// What one letter does to a row in a phase, for any row, letter and phase.
+// What one letter does to a row in a phase, for any row, letter and phase. To a trigger that it
+// aborts it does what it does to a row that waits.
 pub fn step_row(row: Row, letter: u8, phase: Phase) -> Stepped
     ensures { λ r. ⌜ r ≡ stepped row letter phase ⌝ }
 {
     match phase {
         Phase::Waiting => start_check(row, letter),
-        Phase::Trigger(t) => trigger_check(row, letter, t),
+        Phase::Trigger(t) => {
+            let mut again = start_check(row, letter);
+            again.events.aborted = true;
+            trigger_check(row, letter, t, again)
+        }
         Phase::Delay(d) => delay_check(row, letter, d),
         Phase::Action(a) => action_check(row, letter, a),
         Phase::Broken => breaks(false),

@@ -2,6 +2,7 @@
 // a second search (second.rt). Ticks them along random traces, and compares phases and events with
 // a second reading of the rules (watched.rt). Prints how many tables agreed, and what kinds of
 // answers there were.
+mod again;
 mod compare;
 mod counts;
 mod doomed;
@@ -115,7 +116,7 @@ fn attempt(
     let noted = noted(tally, changed, differs);
     let followed = follow(seed ^ 6, table, valid, tally.seen);
     let all = reported(changed, differs) | followed.differs;
-    counted(noted, right, table.count, all, solved.kinds, followed.seen)
+    counted(noted, right, table.count, all, solved, followed.seen)
 }
 
 // Makes a table, solves it by the second search, and tries the first on it, or now and then on the

@@ -1,6 +1,6 @@
-// The step rules of document 01 over phase codes: "0 waiting; 1-60 trigger elapsed; 60 + elapsed
-// for delay; 120 + elapsed for action; 255 broken"; which of the events of document 02, ask 1,
-// happen at a letter; and which rows' triggers are realised at it.
+// The step rules of document 01, as document 02, ask 4, amends them, over phase codes: "0 waiting;
+// 1-60 trigger elapsed; 60 + elapsed for delay; 120 + elapsed for action; 255 broken"; which of the
+// events of document 02, ask 1, happen at a letter; and which rows' triggers are realised at it.
 use table::AC;
 use table::AEE;
 use table::ASE;
@@ -67,12 +67,36 @@ fn trigger_check(row: Row, t: u8, letter: u8) -> u64 {
     WAITING
 }
 
-// "Waiting: if TSE holds, do the trigger check with 0; else stay waiting."
+// "Waiting: if TSE holds, do the trigger check with 0; else stay waiting." "A trigger that aborts
+// in the tick it began starts no other."
 fn start_check(row: Row, letter: u8) -> u64 {
     if holds(row.sets[TSE], letter) {
         trigger_check(row, 0, letter)
     } else {
         WAITING
+    }
+}
+
+// "Else waiting (aborted)": with t ticks the trigger neither is realised nor goes on.
+fn lapses(row: Row, t: u8, letter: u8) -> bool {
+    let realised = holds(row.sets[TEE], letter) & (row.tmin <= t);
+    let goes_on = holds(row.sets[TC], letter) & (t < row.tmax);
+    !realised & !goes_on
+}
+
+// "When a trigger that began at an earlier tick aborts and TSE holds at that letter".
+pub fn restarts(row: Row, code: u8, letter: u8) -> bool {
+    let earlier = (0 < code) & (code <= 60);
+    earlier & lapses(row, code, letter) & holds(row.sets[TSE], letter)
+}
+
+// "do the trigger check with 0 on the same letter. If this second check aborts as well, the row
+// waits." A trigger that does not restart has the one check.
+fn running_check(row: Row, code: u8, letter: u8) -> u64 {
+    if restarts(row, code, letter) {
+        trigger_check(row, 0, letter)
+    } else {
+        trigger_check(row, code, letter)
     }
 }
 
@@ -85,7 +109,7 @@ fn step_row(row: Row, code: u8, letter: u8) -> u64 {
     } else if 60 < code {
         delay_check(row, code - 60, letter)
     } else if 0 < code {
-        trigger_check(row, code, letter)
+        running_check(row, code, letter)
     } else {
         start_check(row, letter)
     }
@@ -124,12 +148,13 @@ pub const BROKE: u8 = 32;
 // Stands for the elapsed ticks of a check that is not done at the letter.
 const NOT_DONE: u8 = 255;
 
-// "trigger started": the row waits and TSE holds.
+// "trigger started": the row waits and TSE holds, or its trigger restarts.
 fn starts(row: Row, code: u8, letter: u8) -> bool {
-    (code == 0) & holds(row.sets[TSE], letter)
+    ((code == 0) & holds(row.sets[TSE], letter)) | restarts(row, code, letter)
 }
 
-// The elapsed ticks with which the trigger check is done at the letter.
+// The elapsed ticks with which the trigger check is done at the letter, the second one if there are
+// two.
 fn trigger_ticks(row: Row, code: u8, letter: u8) -> u8 {
     if starts(row, code, letter) {
         0
@@ -146,10 +171,11 @@ pub fn realises(row: Row, code: u8, letter: u8) -> bool {
     (t != NOT_DONE) & holds(row.sets[TEE], letter) & (row.tmin <= t)
 }
 
-// "Else waiting (aborted)": neither realised nor in trigger after its check.
-fn aborts(row: Row, code: u8, letter: u8, after: u64) -> bool {
+// "trigger aborted", at the first check or at the second: "If both happen, abort and start are both
+// reported."
+fn aborts(row: Row, code: u8, letter: u8) -> bool {
     let t = trigger_ticks(row, code, letter);
-    (t != NOT_DONE) & !realises(row, code, letter) & (after == WAITING)
+    restarts(row, code, letter) | ((t != NOT_DONE) & lapses(row, t, letter))
 }
 
 // The elapsed ticks with which the delay check is done at the letter.
@@ -186,7 +212,7 @@ pub fn events(row: Row, code: u8, letter: u8) -> u8 {
     let after = step_row(row, code, letter);
     bit(starts(row, code, letter), STARTED)
         | bit(realises(row, code, letter), REALISED)
-        | bit(aborts(row, code, letter, after), ABORTED)
+        | bit(aborts(row, code, letter), ABORTED)
         | bit(acts(row, code, letter), ACTING)
         | bit(completes(row, code, letter, after), COMPLETED)
         | bit((code != 255) & (after == BROKEN_ROW), BROKE)

@@ -1,4 +1,7 @@
-// How many ticks of the watcher were compared, and how often each event came up in them.
+// How many ticks of the watcher were compared, how often each event came up in them, and how often
+// a trigger aborted and started again.
+use crate::rules::ABORTED;
+use crate::rules::STARTED;
 use crate::tally::print_line;
 
 // The number of events; each has the place of its bit.
@@ -8,13 +11,16 @@ pub const KINDS: usize = 6;
 const MOST: usize = 1_000_000_000;
 
 // Ticks, and those of them that were refused; how often an event or a count was changed, and how
-// often this was noticed; and each event.
+// often this was noticed; each event; and the triggers that were on, aborted and started again, and
+// those of them that went on, in their first tick.
 pub struct Seen {
     pub ticks: usize,
     pub refused: usize,
     pub struck: usize,
     pub noticed: usize,
     pub events: [usize; KINDS],
+    pub again: usize,
+    pub going_on: usize,
 }
 
 pub fn nothing() -> Seen {
@@ -24,6 +30,8 @@ pub fn nothing() -> Seen {
         struck: 0,
         noticed: 0,
         events: [0usize; KINDS],
+        again: 0,
+        going_on: 0,
     }
 }
 
@@ -63,6 +71,16 @@ pub fn with_events(seen: Seen, number: u8) -> Seen {
     next
 }
 
+// With a trigger more that started again, if it did. The codes are those before and after the tick.
+pub fn with_again(seen: Seen, before: u8, number: u8, after: u8) -> Seen {
+    let both = ABORTED | STARTED;
+    let again = (0 < before) & (before <= 60) & ((number & both) == both);
+    let mut next = seen;
+    next.again = more_if(seen.again, again);
+    next.going_on = more_if(seen.going_on, again & (after == 1));
+    next
+}
+
 pub fn print_seen(seen: Seen) {
     let text: &[u8] = b"ticks #  refused #  with an event or a count changed #  of these noticed #";
     print_line(text, 0, seen.ticks);
@@ -70,8 +88,11 @@ pub fn print_seen(seen: Seen) {
     print_line(text, 2, seen.struck);
     print_line(text, 3, seen.noticed);
     let names: &[u8] = b"triggers started #triggers realised #triggers aborted #\
-        actions started #actions completed #rows broken #";
+        actions started #actions completed #rows broken #\
+        triggers started again as they abort #  of these going on #";
     for k in 0..KINDS {
         print_line(names, k, seen.events[k]);
     }
+    print_line(names, KINDS, seen.again);
+    print_line(names, KINDS + 1, seen.going_on);
 }

@@ -8,6 +8,7 @@ use crate::kinds::Kinds;
 use crate::lists::larger;
 use crate::lists::more;
 use crate::lists::one_more;
+use crate::second::Solved;
 use crate::seen::Seen;
 use crate::seen::nothing;
 use crate::seen::print_seen;
@@ -39,11 +40,12 @@ pub struct Tally {
     pub joined: usize,
     pub fell_back: usize,
     pub longest_fall: usize,
+    pub again: usize,
     pub seen: Seen,
 }
 
 // So many lines are printed of it.
-const LINES: usize = 25;
+const LINES: usize = 26;
 
 // A walk that falls back through so many doomed states in a row is counted.
 const FALL: usize = 5;
@@ -75,6 +77,7 @@ pub fn none() -> Tally {
         joined: 0,
         fell_back: 0,
         longest_fall: 0,
+        again: 0,
         seen: nothing(),
     }
 }
@@ -148,22 +151,38 @@ fn with_never(tally: Tally, right: Expected) -> Tally {
     t
 }
 
-// The tally with one table more, of which `differs` says what differs. The paths are counted where
-// the lost numbers were compared. `seen` has its ticks already.
+// The tally with a walk along paths, and with a trigger that starts again, where the entries were
+// compared.
+fn with_walk(tally: Tally, kinds: Kinds, again: bool, walked: bool) -> Tally {
+    let mut t = tally;
+    let fall = if walked { kinds.longest_fall } else { 0 };
+    t.walks = one_more_if(t.walks, walked);
+    t.walks_agreed = one_more_if(t.walks_agreed, walked & kinds.same);
+    t.closed = one_more_if(t.closed, walked & kinds.closed);
+    t.closed_back = one_more_if(t.closed_back, walked & kinds.closed_back);
+    t.joined = one_more_if(t.joined, walked & kinds.joined);
+    t.fell_back = one_more_if(t.fell_back, FALL <= fall);
+    t.longest_fall = larger(t.longest_fall, fall);
+    t.again = one_more_if(t.again, walked & again);
+    t
+}
+
+// The tally with one table more, of which `differs` says what differs. `seen` has its ticks
+// already.
 pub fn counted(
     t: Tally,
     right: Expected,
     rows: u8,
     differs: u32,
-    kinds: Kinds,
+    solved: Solved,
     seen: Seen,
 ) -> Tally {
+    let kinds = solved.kinds;
     print_difference(differs | unless(kinds.same, 10), t.tables);
     let sound = right.verdict == SOUND;
     let trapped = right.verdict == TRAPPED;
-    let walked = 0 < right.used;
-    let fall = if walked { kinds.longest_fall } else { 0 };
-    let mut next = with_never(t, right);
+    let listed = with_never(t, right);
+    let mut next = with_walk(listed, kinds, solved.again, 0 < right.used);
     next.tables = one_more(t.tables);
     next.agreed = one_more_if(t.agreed, differs == 0);
     next.sound = one_more_if(t.sound, sound);
@@ -178,13 +197,6 @@ pub fn counted(
     next.longest_trace = larger(t.longest_trace, right.length);
     next.largest_lost = larger(t.largest_lost, right.lost);
     next.most_states = larger(t.most_states, right.count);
-    next.walks = one_more_if(t.walks, walked);
-    next.walks_agreed = one_more_if(t.walks_agreed, walked & kinds.same);
-    next.closed = one_more_if(t.closed, walked & kinds.closed);
-    next.closed_back = one_more_if(t.closed_back, walked & kinds.closed_back);
-    next.joined = one_more_if(t.joined, walked & kinds.joined);
-    next.fell_back = one_more_if(t.fell_back, FALL <= fall);
-    next.longest_fall = larger(t.longest_fall, fall);
     next.seen = seen;
     next
 }
@@ -217,6 +229,7 @@ fn numbers(t: Tally) -> [usize; LINES] {
         t.joined,
         t.fell_back,
         t.longest_fall,
+        t.again,
     ]
 }
 
@@ -233,7 +246,7 @@ pub fn print(t: Tally) {
         walks along paths #  with the same lost numbers #  \
         with a path that closes on itself #  with one that closes before its end #  \
         with a path into the living #  with a fall back through 5 doomed states or more #\
-        longest fall back #";
+        longest fall back #tables with a trigger that starts again as it aborts, and goes on #";
     let numbers = numbers(t);
     for n in 0..LINES {
         print_line(text, n, numbers[n]);

@@ -16,6 +16,7 @@ use crate::random::one_in;
 use crate::rules::code_after;
 use crate::rules::events;
 use crate::seen::Seen;
+use crate::seen::with_again;
 use crate::seen::with_events;
 use crate::seen::with_strike;
 use crate::seen::with_tick;
@@ -135,10 +136,17 @@ fn strike_events(seed: u64, given: [u8; MOST_ROWS], struck: bool) -> [u8; MOST_R
     changed
 }
 
-fn seen_events(seen: Seen, numbers: [u8; MOST_ROWS]) -> Seen {
+// With the events of a tick more, from these codes to those after it.
+fn seen_events(
+    seen: Seen,
+    before: [u8; MOST_ROWS],
+    numbers: [u8; MOST_ROWS],
+    after: [u8; MOST_ROWS],
+) -> Seen {
     let mut all = seen;
     for i in 0..MOST_ROWS {
         all = with_events(all, numbers[i]);
+        all = with_again(all, before[i], numbers[i], after[i]);
     }
     all
 }
@@ -169,7 +177,7 @@ fn advance(seed: u64, table: Table, valid: bool, letter: u8, struck: bool, at: C
         counts: more,
         number: if at.number == 0 { number } else { at.number },
         differs: at.differs | differs,
-        seen: seen_events(seen, right),
+        seen: seen_events(seen, codes, right, after),
     }
 }
 

@@ -1,14 +1,17 @@
 // Table files run through the reader and the search, with four scratch lists and a trace buffer of
 // given lengths. Every place of them is 7 before the call, so that one sees which places the search
-// sets and which it leaves. Above each case stands its answer, worked out by hand from document 01.
+// sets and which it leaves. Above each case stands its answer, worked out by hand from documents 01
+// and 02.
 // Every row fires, `never -`, unless it says otherwise.
 // Letters of the signals `a c`: 0 neither, 1 `a`, 2 `c`, 3 both.
 mod long;
 mod never;
+mod pressed;
 mod print;
 
 use long::show_long;
 use never::show_never;
+use pressed::show_pressed;
 use print::PLACES;
 use print::print;
 use print::print_found;
@@ -98,10 +101,10 @@ fn row_p() {
     show_file(name, 5, 3, 12, 1, 4);
 }
 
-// Q: the states 0 to 3, each by letter 1 from the one before. In 2 and 3 the letters with `c`
-// realise the trigger, which breaks the row at once; 0 leads back. Sound, 4 states: predecessors
-// 0 0 1 2, letters 0 1 1 1. The broken states take no room, and a row that breaks in the tick in
-// which it is realised does not fire: never 1.
+// Q: the states 0 to 3, each by letter 1 from the one before, and from 3 letter 1 leads to 1 again.
+// In 2 and 3 the letters with `c` realise the trigger, which breaks the row at once; 0 leads back.
+// Sound, 4 states: predecessors 0 0 1 2, letters 0 1 1 1. The broken states take no room, and a row
+// that breaks in the tick in which it is realised does not fire: never 1.
 fn row_q() {
     let name: &[u8] = b"q.pnp";
     show_file(name, 4, 4, 4, 4, 0);
@@ -235,7 +238,8 @@ fn no_tables() {
 }
 
 // As many states as there is room for, with a trap and without, a trace of 4,080 letters, and eight
-// rows that `a` would realise, and break, in each of 16 * 15 * 17 states.
+// rows that `a` would realise, and break, in each state. Without `a` their triggers start again
+// every 16, 15, 17, 8, 5, 3, 4 and 2 ticks, all at once every 4,080: 4,081 states with the start.
 fn large() {
     let full: &[u8] = b"full4096.pnp";
     show_long(full, table_in(full));
@@ -260,6 +264,7 @@ fn main() {
     three_signals();
     eight_rows();
     show_never();
+    show_pressed();
     no_tables();
     large();
 }

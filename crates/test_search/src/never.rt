@@ -26,9 +26,10 @@ fn fires_doomed() {
     show_file(name, 5, 5, 5, 5, 0);
 }
 
-// The trigger of row 1 goes on while `a` holds, up to 5 ticks, and has no end; it is dropped then.
-// Row 2 is done in the tick of each `c`. Sound, 6 states: states 0 to 5, predecessors 0 0 1 2 3 4,
-// letters 0 1 1 1 1 1. No letter ever realises row 1, broken or not.
+// The trigger of row 1 goes on while `a` holds, up to 5 ticks, and has no end: it aborts then, and
+// starts again if `a` still holds. Row 2 is done in the tick of each `c`. Sound, 6 states: states
+// 0 to 5, predecessors 0 0 1 2 3 4, letters 0 1 1 1 1 1. No letter ever realises row 1, broken or
+// not.
 fn no_end() {
     show_file(b"no_end.pnp", 6, 7, 6, 6, 0);
     // Room 5: 20, and no list.

@@ -142,7 +142,7 @@ pub(crate) fn print_eight(tally: Tally) -> Tally {
     let start = watcher::start();
     let late: &[u8] = b"eight rows";
     print_before(watch);
-    let mut last = crate::print_cases(tally, late, table, watch, &[1, 2, 3, 10, 20, 30, 3121]);
+    let mut last = crate::print_cases(tally, late, table, watch, &[1, 2, 3, 10, 11, 20, 30, 3121]);
     let early: &[u8] = b"eight rows from the start";
     last = crate::print_cases(last, early, table, start, &[1, 2, 3, 10, 2013]);
     last = print_kept(last, table, watch);

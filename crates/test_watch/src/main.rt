@@ -1,9 +1,9 @@
 // The first boards of document 01 that are about single rows, run through the watcher: rows P, Q
 // and S with the signals `a c`, each with the letters read and the code that its phase then has.
-// Then rows in which much happens at one letter, one small input for each number that a watcher
-// call can give, and tables of eight rows. Each case goes three ways (`ways`), and what happened to
-// each row is printed: at each tick, and as counts in the order started, realised, aborted, acting,
-// completed, broken.
+// Then rows in which much happens at one letter, triggers that are pressed again as they abort, one
+// small input for each number that a watcher call can give, and tables of eight rows. Each case
+// goes three ways (`ways`), and what happened to each row is printed: at each tick, and as counts
+// in the order started, realised, aborted, acting, completed, broken.
 mod eight;
 mod rows;
 mod runs;
@@ -13,6 +13,8 @@ mod ways;
 use libc::STDOUT_FILENO;
 use rows::one_row;
 use rows::one_signal;
+use rows::row_brief;
+use rows::row_done;
 use rows::row_lapse;
 use rows::row_p;
 use rows::row_q;
@@ -52,26 +54,32 @@ fn print_letters(trace: &[u8]) {
     }
 }
 
-// Where the first digit of a number stands in four places; past them for 0.
-fn first_place(digits: u16) -> usize
-    ensures { λ r. ⌜ r ≤ 4 ⌝ }
+// Where the first digit of a number stands in six places; past them for 0.
+fn first_place(digits: u32) -> usize
+    ensures { λ r. ⌜ r ≤ 6 ⌝ }
 {
-    if 999 < digits {
+    if 99999 < digits {
         0
-    } else if 99 < digits {
+    } else if 9999 < digits {
         1
-    } else if 9 < digits {
+    } else if 999 < digits {
         2
-    } else if 0 < digits {
+    } else if 99 < digits {
         3
-    } else {
+    } else if 9 < digits {
         4
+    } else if 0 < digits {
+        5
+    } else {
+        6
     }
 }
 
 // Plays a trace, given as a number: its digits are the letters, and 0 stands for no letter at all.
-fn print_play(tally: Tally, table: Table, watch: Watch, digits: u16) -> Tally {
+fn print_play(tally: Tally, table: Table, watch: Watch, digits: u32) -> Tally {
     let letters = [
+        (digits / 100000 % 10) as u8,
+        (digits / 10000 % 10) as u8,
         (digits / 1000 % 10) as u8,
         (digits / 100 % 10) as u8,
         (digits / 10 % 10) as u8,
@@ -90,7 +98,7 @@ pub(crate) fn print_case(
     name: &[u8],
     table: Table,
     watch: Watch,
-    digits: u16,
+    digits: u32,
 ) -> Tally {
     io::write_all(STDOUT_FILENO, name);
     print_play(tally, table, watch, digits)
@@ -102,7 +110,7 @@ pub(crate) fn print_cases(
     name: &[u8],
     table: Table,
     watch: Watch,
-    traces: &[u16],
+    traces: &[u32],
 ) -> Tally {
     let mut last = tally;
     for i in 0..traces.len() {
@@ -120,7 +128,7 @@ fn with_code(code: u8) -> Watch {
 }
 
 // A case whose name is the code at which it begins.
-fn print_code(tally: Tally, table: Table, code: u8, digits: u16) -> Tally {
+fn print_code(tally: Tally, table: Table, code: u8, digits: u32) -> Tally {
     io::write_all(STDOUT_FILENO, b"code ");
     io::print_decimal(STDOUT_FILENO, code as u64);
     print_play(tally, table, with_code(code), digits)
@@ -197,6 +205,29 @@ fn at_once(tally: Tally) -> Tally {
     print_cases(last, b"every letter", stand, start, &[1, 10])
 }
 
+// Triggers that began at an earlier tick and abort where their start holds (document 02, ask 4).
+fn pressed(tally: Tally) -> Tally {
+    let start = watcher::start();
+    let q = one_row(row_q());
+    let brief = one_row(row_brief());
+    let done = one_row(row_done());
+    // Phases 1 2 3, then 1, aborted and started, 2, and 255, realised and broken. After 1 and the
+    // letter 2, at which the start does not hold, 0, aborted.
+    let again: &[u8] = b"Q pressed again";
+    let mut last = print_cases(
+        tally,
+        again,
+        q,
+        start,
+        &[1, 11, 111, 1111, 11111, 111113, 12],
+    );
+    // Phases 1, then 0, aborted and started: the second check aborts as well. Then 0, started and
+    // aborted: a trigger that aborts in the tick it began starts no other.
+    last = print_cases(last, b"aborted twice", brief, start, &[3, 31, 311]);
+    // Phases 1, then 0, realised, acting, completed: what is no abort starts no other.
+    print_cases(last, b"completed as it is realised", done, start, &[1, 13])
+}
+
 fn main() {
     let mut tally = Tally {
         alike: 0,
@@ -204,6 +235,7 @@ fn main() {
     };
     tally = boards(tally);
     tally = at_once(tally);
+    tally = pressed(tally);
     tally = rules_refused(tally);
     tally = states_refused(tally);
     tally = letters_refused(tally);

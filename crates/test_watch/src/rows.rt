@@ -74,6 +74,32 @@ pub(crate) fn row_stand() -> Row {
     }
 }
 
+// `a,c,0,0,3,0,0,0,0,0,0,0`: a trigger that is aborted once `c` fails, and as it starts without it.
+pub(crate) fn row_brief() -> Row {
+    Row {
+        sets: [A, C, NEVER, NEVER, NEVER, NEVER],
+        tmin: 0,
+        tmax: 3,
+        lmin: 0,
+        lmax: 0,
+        amin: 0,
+        amax: 0,
+    }
+}
+
+// `a,a,c,1,3,0,0,1,1,1,0,0`: the action is completed as the trigger is realised.
+pub(crate) fn row_done() -> Row {
+    Row {
+        sets: [A, A, C, ALWAYS, ALWAYS, ALWAYS],
+        tmin: 1,
+        tmax: 3,
+        lmin: 0,
+        lmax: 0,
+        amin: 0,
+        amax: 0,
+    }
+}
+
 // A table with one row and the signals `a c`.
 pub(crate) fn one_row(row: Row) -> Table {
     let no_name = Name { chars: [0u8; 8] };

@@ -13,7 +13,7 @@ use watcher::Ticked;
 use watcher::Watch;
 
 // No trace here is longer.
-pub(crate) const MOST_LETTERS: usize = 4;
+pub(crate) const MOST_LETTERS: usize = 6;
 
 // The number of events, which have the places 0 to 5 in the order of `Events`.
 pub(crate) const KINDS: usize = 6;

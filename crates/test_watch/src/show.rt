@@ -72,7 +72,7 @@ fn print_events(number: u8) {
 
 // The events of tick i of the rows that are used, and of another that has any.
 fn print_rows(events: [u8; ALL_EVENTS], i: usize, used: usize)
-    requires { ⌜ i < 4 ⌝ }
+    requires { ⌜ i < 6 ⌝ }
 {
     let space: &[u8] = b" ";
     for j in 0..MOST_ROWS {

@@ -1,7 +1,7 @@
 -- "First boards", the starred cases: signals `a c`, and the phase of a row after the letters, or
 -- what the search says of a table.
 use Prim.Native.Nat.{ℕ, _≤_}
-use mathlib.Core.Bool.{Bool, true, false, not, _&&_}
+use mathlib.Core.Bool.{Bool, true, false, not, _&&_, _||_}
 use mathlib.Core.List.{List, [], _∷_}
 use mathlib.Core.Path.{_≡_}
 use lib.Dec.{eqb}
@@ -117,7 +117,7 @@ starred =
     ∷ after P (1 ∷ 3 ∷ []) 0
     ∷ after Q (1 ∷ 1 ∷ 3 ∷ []) 255
     ∷ after Q (1 ∷ 3 ∷ []) 2
-    ∷ after Q (1 ∷ 1 ∷ 1 ∷ 1 ∷ []) 0
+    ∷ after Q (1 ∷ 1 ∷ 1 ∷ 1 ∷ []) 1
     ∷ after Q (1 ∷ 1 ∷ 1 ∷ 3 ∷ []) 255
     ∷ after Q (1 ∷ 0 ∷ []) 0
     ∷ after S (3 ∷ []) 121
@@ -128,8 +128,8 @@ starred =
     ∷ traps delayed (1 ∷ []) 3 4
     ∷ []
 
--- Document 02, ask 1: a row, the letters that it reads from the start, one letter more, the code of
--- its phase then, and what happened at that letter.
+-- Document 02, asks 1 and 4: a row, the letters that it reads from the start, one letter more, the
+-- code of its phase then, and what happened at that letter.
 pub record EventCase : Type 0 where
   pub row : Row
   pub letters : List ℕ
@@ -154,6 +154,14 @@ dropped = timed (a ∷ never ∷ never ∷ a ∷ a ∷ a ∷ []) 0 0 0 0 0 0
 abbrev atOnce : Row
 atOnce = timed (always ∷ always ∷ always ∷ a ∷ a ∷ a ∷ []) 0 0 0 0 0 0
 
+-- A trigger that `a` starts and `c` holds, `a,c,0,0,3,0,0,0,0,0,0,0`; and one whose action is over
+-- at once, `a,a,c,1,3,0,0,1,1,1,0,0`.
+abbrev heldByC : Row
+heldByC = timed (a ∷ c ∷ never ∷ never ∷ never ∷ never ∷ []) 0 3 0 0 0 0
+
+abbrev quick : Row
+quick = timed (a ∷ a ∷ c ∷ always ∷ always ∷ always ∷ []) 1 3 0 0 0 0
+
 -- The events in order: started, realised, aborted, action started, completed, broken.
 unfoldable pub eventCases : List EventCase
 eventCases =
@@ -161,12 +169,17 @@ eventCases =
     ∷ happened P (1 ∷ []) 2 0 (eventsOf false false false true true false)
     ∷ happened P (1 ∷ []) 0 255 (eventsOf false false false false false true)
     ∷ happened P (1 ∷ 0 ∷ []) 1 255 (eventsOf false false false false false false)
-    ∷ happened Q (1 ∷ 1 ∷ 1 ∷ []) 1 0 (eventsOf false false true false false false)
     ∷ happened Q (1 ∷ 1 ∷ []) 3 255 (eventsOf false true false false false true)
     ∷ happened S [] 1 255 (eventsOf true true false true false true)
     ∷ happened dropped [] 1 0 (eventsOf true false true false false false)
     ∷ happened atOnce [] 1 0 (eventsOf true true false true true false)
     ∷ happened atOnce (1 ∷ []) 0 255 (eventsOf true true false false false true)
+    ∷ happened Q (1 ∷ 1 ∷ 1 ∷ []) 1 1 (eventsOf true false true false false false)
+    ∷ happened Q (1 ∷ 1 ∷ 1 ∷ 1 ∷ 1 ∷ []) 3 255 (eventsOf false true false false false true)
+    ∷ happened Q (1 ∷ []) 2 0 (eventsOf false false true false false false)
+    ∷ happened heldByC (3 ∷ []) 1 0 (eventsOf true false true false false false)
+    ∷ happened heldByC (3 ∷ 1 ∷ []) 1 0 (eventsOf true false true false false false)
+    ∷ happened quick (1 ∷ []) 3 0 (eventsOf false true false true true false)
     ∷ []
 
 -- Document 02, ask 2: the rows of a table, of at most 8 states, and the numbers of those that never
@@ -197,9 +210,34 @@ abbrev instant : ℕ → ℕ → ℕ → Row
 instant trigger lmax action =
     timed (trigger ∷ trigger ∷ trigger ∷ action ∷ action ∷ action ∷ []) 0 0 0 lmax 0 0
 
+-- Document 02, ask 4: a table that is trapped only since a trigger may begin again as it aborts.
+-- `a,a,!a,1,2,0,0,c,c,1,1,1`, and `a,a,a,0,0,3,3,N,N,N,0,0` with `!a&!c` for N.
+abbrev neither : ℕ
+neither = setOf 4 (λ letter. not (signalOn letter 0 || signalOn letter 1))
+
+abbrev pub pressed : List Row
+pressed = timed (a ∷ a ∷ notA ∷ c ∷ c ∷ always ∷ []) 1 2 0 0 1 1
+    ∷ timed (a ∷ a ∷ a ∷ neither ∷ neither ∷ neither ∷ []) 0 0 3 3 0 0 ∷ []
+
+abbrev pub pressedCase : Case
+pressedCase = traps pressed (1 ∷ 1 ∷ 1 ∷ []) 1 7
+
+-- A row with such a trigger makes the other one impossible: `a,a,c,1,1,1,1,a&c,D,D,0,1` with
+-- `!(!a&!c)` for D, and `a,a,a&c,1,1,0,0,!c,a,c,1,1`. And two triggers that begin again and again:
+-- `1,1,0,0,2,0,0,0,0,0,0,0` and `1,1,0,0,3,0,0,0,0,0,0,0`.
+abbrev either : ℕ
+either = setOf 4 (λ letter. signalOn letter 0 || signalOn letter 1)
+
+abbrev shutOut : List Row
+shutOut = timed (a ∷ a ∷ c ∷ both ∷ either ∷ either ∷ []) 1 1 1 1 0 1
+    ∷ timed (a ∷ a ∷ both ∷ notC ∷ a ∷ c ∷ []) 1 1 0 0 1 1 ∷ []
+
+abbrev idle : ℕ → Row
+idle tmax = timed (always ∷ always ∷ never ∷ never ∷ never ∷ never ∷ []) 0 tmax 0 0 0 0
+
 -- Q breaks in the tick in which it is realised; a row that another makes impossible; one that is
 -- realised only where another breaks; one that fires in doomed states alone; one whose trigger
--- cannot end; and two that break each other at the start.
+-- cannot end; two that break each other at the start; and the two tables above.
 unfoldable pub listCases : List ListCase
 listCases =
     lists (Q ∷ []) 1
@@ -210,4 +248,6 @@ listCases =
     ∷ lists (timed (a ∷ a ∷ never ∷ always ∷ always ∷ always ∷ []) 0 5 0 0 0 0
     ∷ instant c 0 always ∷ []) 1
     ∷ lists (instant always 0 a ∷ instant always 0 notA ∷ []) 3
+    ∷ lists shutOut 2
+    ∷ lists (idle 2 ∷ idle 3 ∷ []) 3
     ∷ []

@@ -9,10 +9,11 @@ use Rattle.step.proofs.trigger_check.Tie as tie
 
 -- the definition, from what the callees ensure
 checked : (c : tie.After-check-of) → let a = c .before .before .before .before .before .args in
-    steppedTo (triggerCheck (a .t1) (a .letter) (a .t)) (triggerEvents (a .t1) (a .letter) (a .t))
-    ≡ triggerEnds (delayStarts (a .t1) (a .letter)) (c .check-of .result)
+    steppedTo (triggerCheck (a .t1) (a .letter) (a .t) (a .lapsed .phase))
+    (triggerEvents (a .t1) (a .letter) (a .t) (a .lapsed .events))
+    ≡ triggerEnds (delayStarts (a .t1) (a .letter)) (a .lapsed) (c .check-of .result)
 checked c =
-    trigger-ends _ _ _ ∙ simp (
+    trigger-ends _ _ _ _ ∙ simp (
       c .check-of .ensures,
       c .before .contains2 .ensures,
       c .before .before
@@ -31,12 +32,11 @@ returns-2 c = rw (checked (c .before .before .before .before), c .before .before
 
 returns-3 : tie.Need-returns-3
 unfolding triggerEnds
-returns-3 c = rw (checked (c .before .before .before), c .before .enum-told2 .given .1)
-    (c .aborts .ensures)
+returns-3 c = rw (checked (c .before .before), c .enum-told2 .given .1)
 
 pub trigger-check-spec : {M : Type 1} → statement M
 trigger-check-spec =
     tie.close (tie.spec
     (λ c. search needs) (λ c κs. search needs) (λ c. search needs) (λ c κs. search needs)
     (λ c κs. search needs) (λ c. search needs) (λ c κs. search needs) (λ c. search needs)
-    (λ c κs. search needs) (λ c. search needs) (λ c κs. search needs) returns returns-2 returns-3)
+    (λ c κs. search needs) (λ c. search needs) returns returns-2 returns-3)

@@ -5,7 +5,7 @@ use mathlib.Core.Bool.{true, false, _&&_}
 use mathlib.Core.Logic.{_⊎_}
 use mathlib.Core.Path.{_≡_}
 use lib.Dec.{leb, ltb}
-use Rattle.table.specs.Row.{holds, tse, tc, tee, ase, ac, aee}
+use Rattle.table.specs.Row.{holds, tse, tc, tee, ase, aee}
 use Rattle.table.specs.declared.Row.{Row}
 use Rattle.step.specs.declared.Events.{Events}
 use Rattle.step.specs.declared.Phase.{Phase}
@@ -30,6 +30,12 @@ module _ (row : Row) (letter : ℕ) where
     pub checked : TriggerChecked phase elapsed
     pub unended : (holds row tee letter && leb (row .tmin) elapsed) ≡ false
     pub lapsed : (holds row tc letter && ltb elapsed (row .tmax)) ≡ false
+
+  -- "Waiting: if TSE holds, do the trigger check with 0". Document 02, ask 4: "When a trigger that
+  -- began at an earlier tick aborts and TSE holds at that letter, do the trigger check with 0".
+  pub data Started : Phase → Type 0 where
+    waits : holds row tse letter ≡ true → Started Waiting
+    again : {t : ℕ} → Aborted (Trigger t) → holds row tse letter ≡ true → Started (Trigger t)
 
   -- "Do the delay check with 0 on the same letter".
   pub data DelayChecked : Phase → ℕ → Type 0 where

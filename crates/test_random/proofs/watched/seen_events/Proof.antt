@@ -6,13 +6,14 @@ use Rattle.test_random.proofs.watched.seen_events.Statement.{statement}
 use Rattle.test_random.proofs.watched.seen_events.Tie as tie
 
 abbrev Inv-loop : tie.InvT-loop
-Inv-loop numbers all₀ i₀ all i = Unit {0}
+Inv-loop before numbers after all₀ i₀ all i = Unit {0}
 
 abbrev μ-loop : tie.MeasureT-loop
-μ-loop numbers all₀ i₀ all i = 8 - i
+μ-loop before numbers after all₀ i₀ all i = 8 - i
 
 pub seen-events-spec : {M : Type 1} → statement M
 seen-events-spec =
     tie.close (tie.spec Inv-loop μ-loop (λ c. search needs) (λ c. search needs)
+    (λ c κs. search needs) (λ c. search needs) (λ c. search needs) (λ c. search needs)
     (λ c κs. search needs) (λ c. search needs) (λ c. search needs) (λ c. search needs)
     (λ c. search needs))

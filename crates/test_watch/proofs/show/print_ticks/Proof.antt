@@ -10,7 +10,7 @@ abbrev Inv-loop : tie.InvT-loop
 Inv-loop run used events outcome tick colon end i₀ i = Unit {0}
 
 abbrev μ-loop : tie.MeasureT-loop
-μ-loop run used events outcome tick colon end i₀ i = 4 - i
+μ-loop run used events outcome tick colon end i₀ i = 6 - i
 
 pub print-ticks-spec : {M : Type 1} → statement M
 print-ticks-spec =

@@ -9,7 +9,7 @@ abbrev Inv-loop : tie.InvT-loop
 Inv-loop one other i₀ i = Unit {0}
 
 abbrev μ-loop : tie.MeasureT-loop
-μ-loop one other i₀ i = 32 - i
+μ-loop one other i₀ i = 48 - i
 
 pub same-events-spec : {M : Type 1} → statement M
 same-events-spec =
