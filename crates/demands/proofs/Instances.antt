@@ -15,7 +15,7 @@ use Rattle.table.specs.declared.Table.{Table}
 use Rattle.traces.specs.inner.Explore.{has, enter, visit, explore}
 use Rattle.traces.specs.inner.Passing.{someBelow, somePasses}
 use Rattle.traces.specs.inner.Least.{passBelow, breaksIn, lostWithin}
-use Rattle.traces.specs.inner.Judgement.{Judgement, RightJudgement, verdictFrom, judge}
+use Rattle.traces.specs.inner.Judgement.{RightJudgement, verdictFrom, judge}
 use Rattle.traces.specs.inner.Judgement.Judgement.{tooMany, sound, trapped}
 use Rattle.traces.specs.inner.Judgement.RightJudgement.{tooMany-right, sound-right, trapped-right}
 use Rattle.traces.proofs.Judgement.{judge-right}
@@ -32,7 +32,7 @@ use Rattle.reader.specs.Reading.{emptyTable}
 use Rattle.reader.proofs.Accepted.{accepted-file}
 use Rattle.reader.proofs.Valid.{file-valid}
 use Rattle.verdict.specs.Found.{refusedFound, soundFound}
-use Rattle.search.specs.Lent.{Lent, roomOf, systemOf, cleared}
+use Rattle.search.specs.Lent.{Lent, roomOf, cleared}
 use Rattle.search.specs.inner.Computed.{neverWithin, searchAnswer}
 use Rattle.demands.specs.examples.Cases.{P, report, noRows}
 use Rattle.demands.specs.examples.Texts.{textP, textNotC, tableOf, ReadAs}

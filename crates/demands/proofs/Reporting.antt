@@ -7,7 +7,6 @@ use Rattle.table.specs.Valid.{rowsOf}
 use Rattle.table.specs.declared.Table.{Table}
 use Rattle.traces.specs.Count.{ReachedMany}
 use Rattle.traces.specs.inner.Verdicts.{Trapped}
-use Rattle.text.specs.Bounds.{decimal}
 use Rattle.text.specs.Lines.{ended}
 use Rattle.reader.specs.Reading.{refusedFile}
 use Rattle.reader.specs.inner.File.{readAnswer}

@@ -2,6 +2,7 @@
 -- `lib.Seq` and `lib.ListN` (lists), `lib.Pow` and `lib.Bits` (powers of 2, masks),
 -- `native.Mathlib.Nat` (numbers).
 pub mod Lists
+pub mod Filling
 pub mod Bits
 pub mod Sets
 pub mod Lowest

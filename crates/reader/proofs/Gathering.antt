@@ -4,12 +4,11 @@ use native.Mathlib.Omega.{arith}
 use mathlib.Core.Bool.{cond}
 use mathlib.Core.List.{List, [], _∷_, _++_, map, append-assoc, append-nil, map-append}
 use mathlib.Core.Path.{_≡_, refl, sym, ap, _∙_}
-use borrow.Author.Count.{below-more}
 use borrow.Author.Tests.{lt-ltb, le-ltb, eq-eqb, ne-eqb}
 use lib.Dec.{eqb, ltb}
-use lib.ListN.{length, getD, take, drop, set, replicate, length-append, length-map, length-set}
-use lib.Seq.{ext-getD, getD-set-same, getD-set-other}
+use lib.ListN.{length, getD, take, drop, set, replicate, length-append, length-map}
 use Rattle.letters.specs.Letter.{width}
+use Rattle.letters.proofs.Filling.{Filled, filled-all}
 use Rattle.table.specs.Limits.{mostRows}
 use Rattle.table.specs.declared.Outcome.the-variants.{Accepted}
 use Rattle.table.specs.declared.Name.{Name}
@@ -200,40 +199,14 @@ module _ (names : List Name) (signals : ℕ) (rest : List ℕ) where
       ≡ record { outcome = Accepted; table = tableFrom signals names rows }
   rows-accepted h rows e = rows-some h ∙ ap (rowsReading names signals) e
 
--- The rows below i are made of their sets and bounds.
-pub record Filled (sets bounds : List (List ℕ)) (rows : List Row) (i : ℕ) : Type 0 where
-  pub low : i ≤ mostRows
-  pub long : length rows ≡ mostRows
-  pub are : (j : ℕ) → j < i → getD rows j zeroRow ≡ rowFrom (getD sets j []) (getD bounds j [])
+-- The row of the sets and bounds at a place; rows that are filled with them are all of them.
+abbrev pub rowAt : List (List ℕ) → List (List ℕ) → ℕ → Row
+rowAt sets bounds j = rowFrom (getD sets j []) (getD bounds j [])
 
-module _ (sets bounds : List (List ℕ)) where
-  pub filled-first : (row : Row) → row ≡ rowFrom (getD sets 0 []) (getD bounds 0 [])
-      → Filled sets bounds (replicate mostRows row) 1
-  filled-first row e = record { low = omega arith; long = refl; are = first }
-    where
-      first : (j : ℕ) → j < 1 → getD (replicate mostRows row) j zeroRow
-          ≡ rowFrom (getD sets j []) (getD bounds j [])
-      first zero h = e
-      first (suc j) h = absurd (omega arith)
-
-  pub filled-next : (rows : List Row) (i : ℕ) (row : Row) → Filled sets bounds rows i → i < mostRows
-      → row ≡ rowFrom (getD sets i []) (getD bounds i [])
-      → Filled sets bounds (set rows i row) (i + 1)
-  filled-next rows i row f h e = record {
-    low = omega arith;
-    long = length-set rows i row ∙ f .long;
-    are =
-        below-more (λ (j : ℕ). getD (set rows i row) j zeroRow
-        ≡ rowFrom (getD sets j []) (getD bounds j [])) i
-        (λ j low. getD-set-other rows i j row zeroRow (omega arith) ∙ f .are j low)
-        (getD-set-same rows i row zeroRow (omega (arith, f .long)) ∙ e);
-  }
-
-  pub filled-all : (rows : List Row) (i : ℕ) → Filled sets bounds rows i → mostRows ≤ i
-      → length sets ≡ mostRows
-      → length bounds ≡ mostRows → rows ≡ gathered sets bounds
-  filled-all rows i f h s b =
-      let long = gathered-length sets bounds (omega arith) in
-      ext-getD zeroRow rows (gathered sets bounds) (omega (arith, f .long))
-      (λ j low. f .are j (omega (arith, f .long))
-      ∙ sym (gathered-at sets bounds zeroRow j (omega (arith, f .long)) (omega (arith, f .long))))
+pub gathered-filled : (sets bounds : List (List ℕ)) (rows : List Row) (i : ℕ)
+    → Filled zeroRow (rowAt sets bounds) mostRows rows i → mostRows ≤ i → length sets ≡ mostRows
+    → length bounds ≡ mostRows → rows ≡ gathered sets bounds
+gathered-filled sets bounds rows i f past s b =
+    filled-all zeroRow (rowAt sets bounds) mostRows rows (gathered sets bounds) i f past
+    (gathered-length sets bounds (omega arith) ∙ s)
+    (λ j low. gathered-at sets bounds zeroRow j (omega arith) (omega arith))

@@ -3,14 +3,13 @@ use Prim.Native.Nat.{ℕ, zero, suc, _+_, _<_, _≤_}
 use native.Mathlib.Decide.{decLt}
 use native.Mathlib.Nat.{zero-add}
 use native.Mathlib.Omega.{arith}
-use borrow.Author.Count.{below-more}
 use mathlib.Core.List.{List, [], _∷_, _++_}
-use mathlib.Core.Path.{_≡_, refl, sym, ap, _∙_}
-use lib.ListN.{length, getD, set, length-set, length-replicate, getD-replicate}
+use mathlib.Core.Path.{_≡_, refl, ap, _∙_}
+use lib.ListN.{length, getD, length-replicate, getD-replicate}
 use lib.ListN.{List·getD-eq-default}
-use lib.Seq.{ext-getD, getD-set-same, getD-set-other}
 use Rattle.table.specs.Limits.{mostRows}
 use Rattle.letters.specs.Letter.{bit}
+use Rattle.letters.proofs.Filling.{Filled, filled-all}
 use Rattle.table.specs.declared.Row.{Row}
 use Rattle.traces.specs.Trace.{run}
 use Rattle.step.specs.declared.Phase.{Phase}
@@ -67,38 +66,18 @@ added-place (counts ∷ all) (e ∷ events) zero h k = refl
 added-place (counts ∷ all) (e ∷ events) (suc i) h k =
     added-place all events i (omega arith) (omega arith)
 
--- The counts below i have one tick's events more.
-pub record Added (counts : List Counts) (events : List Events) (all : List Counts) (i : ℕ) : Type 0
-  where
-    pub low : i ≤ mostRows
-    pub long : length all ≡ mostRows
-    pub are : (j : ℕ) → j < i
-        → getD all j noCounts ≡ addEvents (getD counts j noCounts) (getD events j noEvents)
+-- The counts of row j with one tick's events more; counts that are filled with them are all of
+-- them.
+abbrev pub addedAt : List Counts → List Events → ℕ → Counts
+addedAt counts events j = addEvents (getD counts j noCounts) (getD events j noEvents)
 
-module _ (counts : List Counts) (events : List Events) where
-  pub added-first : length counts ≡ mostRows → Added counts events counts 0
-  added-first long = record { low = omega arith; long = long; are = λ j h. absurd (omega arith) }
-
-  pub added-next : (all : List Counts) (i : ℕ) (new : Counts) → Added counts events all i
-      → i < mostRows → new ≡ addEvents (getD counts i noCounts) (getD events i noEvents)
-      → Added counts events (set all i new) (i + 1)
-  added-next all i new f h e = record {
-    low = omega arith;
-    long = length-set all i new ∙ f .long;
-    are =
-        below-more (λ (j : ℕ). getD (set all i new) j noCounts
-        ≡ addEvents (getD counts j noCounts) (getD events j noEvents)) i
-        (λ j low. getD-set-other all i j new noCounts (omega arith) ∙ f .are j low)
-        (getD-set-same all i new noCounts (omega (arith, f .long)) ∙ e);
-  }
-
-  pub added-all : (all : List Counts) (i : ℕ) → Added counts events all i → mostRows ≤ i
-      → length counts ≡ mostRows → length events ≡ mostRows → all ≡ addAll counts events
-  added-all all i f h c e =
-      let long = added-length counts events in
-      ext-getD noCounts all (addAll counts events) (omega (arith, f .long))
-      (λ j low. f .are j (omega (arith, f .long))
-      ∙ sym (added-place counts events j (omega (arith, f .long)) (omega (arith, f .long))))
+pub added-filled : (counts : List Counts) (events : List Events) (all : List Counts) (i : ℕ)
+    → Filled noCounts (addedAt counts events) mostRows all i → mostRows ≤ i
+    → length counts ≡ mostRows → length events ≡ mostRows → all ≡ addAll counts events
+added-filled counts events all i f past c e =
+    filled-all noCounts (addedAt counts events) mostRows all (addAll counts events) i f past
+    (added-length counts events ∙ c)
+    (λ j low. added-place counts events j (omega arith) (omega arith))
 
 added-at : (all : List Counts) (events : List Events) (i : ℕ) (event : Event) → i < length all
     → countOf (getD (addAll all events) i noCounts) event

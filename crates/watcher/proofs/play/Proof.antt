@@ -4,7 +4,7 @@
 use Prim.Native.Nat.{_-_, _<_, _^_}
 use borrow.Author.Needs.{needs}
 use native.Mathlib.Omega.{arith}
-use mathlib.Core.Path.{_≡_, sym, ap, _∙_}
+use mathlib.Core.Path.{sym, ap, _∙_}
 use lib.ListN.{length}
 use Rattle.table.specs.declared.Outcome.{Outcome}
 use Rattle.watcher.specs.declared.Ticked.{Ticked}

@@ -1,5 +1,4 @@
 -- `watcher::tally::with_events` meets its contract, count by count. Assumes nothing.
-use borrow.Author.Needs.{needs}
 use Rattle.step.specs.Events.{Event}
 use Rattle.watcher.proofs.tally.with_events.Statement.{statement}
 use Rattle.watcher.proofs.tally.with_events.Tie as tie
