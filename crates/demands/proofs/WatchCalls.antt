@@ -1,12 +1,14 @@
 -- The other calls of the watcher: a tick of a table value, and a trace that is played. Assumes
 -- nothing.
-use Prim.Native.Nat.{ℕ, suc, _<_, _≤_}
+use Prim.Native.Nat.{ℕ, suc, _+_, _<_, _≤_}
+use native.Mathlib.Nat.{lt-of-lt-of-le}
+use native.Mathlib.Omega.{arith}
 use mathlib.Core.Bool.{Bool, true}
 use mathlib.Core.List.{List, [], _∷_}
 use mathlib.Core.Path.{_≡_, refl, sym, ap, ap₂, _∙_}
 use borrow.Author.Tests.{lt-ltb}
 use lib.ListN.{length, getD}
-use Rattle.letters.specs.Letter.{letters, letterValid}
+use Rattle.letters.specs.Letter.{letters, letterValid, bit}
 use Rattle.letters.specs.Lists.{every}
 use Rattle.table.specs.Limits.{mostRows}
 use Rattle.table.specs.Refusal.{refusedAt}
@@ -15,13 +17,14 @@ use Rattle.table.specs.Valid.{tableValid, rowsOf}
 use Rattle.table.specs.declared.Row.{Row}
 use Rattle.table.specs.declared.Table.{Table}
 use Rattle.table.specs.declared.Outcome.the-variants.{Accepted as Taken}
-use Rattle.table.proofs.Laws.{tableValid-rows}
-use Rattle.traces.specs.Trace.{AllBelow}
+use Rattle.table.proofs.Laws.{tableValid-rows, rowsValid-count}
+use Rattle.traces.specs.Trace.{AllBelow, run}
 use Rattle.step.specs.declared.Phase.{Phase}
+use Rattle.step.specs.declared.Phase.the-variants.{Waiting}
 use Rattle.step.specs.declared.Events.{Events}
-use Rattle.step.specs.Events.{traceEvents, Event, timesOf}
-use Rattle.step.specs.Tick.{tick}
-use Rattle.step.proofs.RowEvents.{times-few}
+use Rattle.step.specs.Events.{traceEvents, Event, timesOf, isOpen}
+use Rattle.step.specs.Tick.{tick, tableSystem}
+use Rattle.step.proofs.RowEvents.{times-few, trace-sums}
 use Rattle.step.specs.Valid.{phasesValid}
 use Rattle.watcher.specs.declared.Played.{Played}
 use Rattle.watcher.specs.declared.Ticked.{Ticked}
@@ -33,7 +36,7 @@ use Rattle.watcher.proofs.Counting.{times-counted}
 use Rattle.watcher.proofs.Records.{watch-phases, phases-watch}
 use Rattle.demands.specs.Watching.{recordAfter, eventsOver, CallValid}
 use Rattle.demands.proofs.WatchLaws.{tick-taken, after-run, after-accepted, number-is}
-use Rattle.demands.proofs.WatchLaws.{line-is, refused-is}
+use Rattle.demands.proofs.WatchLaws.{line-is, refused-is, fits-long}
 
 -- All letters of a trace are letters of the table.
 pub letters-valid : (s : ℕ) (w : List ℕ) → AllBelow (letters s) w → every (letterValid s) w ≡ true
@@ -115,6 +118,30 @@ module _ (table : Table) (watch : Watch) where
           rw (play-counts i small event)
           (rw (over-length (table .signals) (rowsOf table) watch w) at
           (times-few event i (eventsOver (table .signals) (rowsOf table) watch w)))
+
+      pub play-sums : (i : ℕ) → i < length (rowsOf table)
+          → let counts = getD (tablePlay table watch w .counts) i noCounts in
+          counts .realised + bit (isOpen (getD (phasesOf watch) i Waiting))
+          ≡ counts .completed + counts .broken
+          + bit (isOpen (getD (phasesOf (tablePlay table watch w .watch)) i Waiting))
+      play-sums i used =
+          let rows = rowsOf table in
+          let ticks = traceEvents rows (phasesOf watch) w in
+          let small : i < mostRows =
+          lt-of-lt-of-le used
+          (rowsValid-count (table .signals) rows (valid .rules) .1) in
+          let placed = lt-of-lt-of-le used (fits-long rows (phasesOf watch) fits) in
+          let realised = times-counted ticks i Event.realised small in
+          let completed = times-counted ticks i Event.completed small in
+          let broken = times-counted ticks i Event.broken small in
+          rw (taken, phases-watch (run (tableSystem (table .signals) rows) (phasesOf watch) w))
+          (omega (
+            arith,
+            realised,
+            completed,
+            broken,
+            trace-sums (table .signals) rows (phasesOf watch) w i used placed,
+          ))
 
     -- The first number, no line; what a refusal leaves.
     pub play-number : numberOf (tablePlay table watch w .outcome) ≡ first

@@ -1,10 +1,10 @@
 -- What is promised of the watcher, each with its proof. Assumes nothing.
-use Prim.Native.Nat.{ℕ, suc, _<_, _≤_}
+use Prim.Native.Nat.{ℕ, suc, _+_, _<_, _≤_}
 use mathlib.Core.Bool.{true}
 use mathlib.Core.List.{List, map}
 use mathlib.Core.Path.{_≡_, sym, ap, _∙_}
 use lib.ListN.{length, getD, replicate}
-use Rattle.letters.specs.Letter.{letters, letterValid}
+use Rattle.letters.specs.Letter.{letters, letterValid, bit}
 use Rattle.letters.specs.Lists.{every}
 use Rattle.table.specs.Limits.{mostRows}
 use Rattle.table.specs.Row.{noRow}
@@ -16,7 +16,7 @@ use Rattle.traces.specs.Trace.{AllBelow, run}
 use Rattle.step.specs.declared.Phase.{Phase}
 use Rattle.step.specs.declared.Phase.the-variants.{Waiting}
 use Rattle.step.specs.Phase.{codeOf, isBroken}
-use Rattle.step.specs.Events.{Event, timesOf}
+use Rattle.step.specs.Events.{Event, timesOf, isOpen}
 use Rattle.step.specs.further.Codes.{phaseOf}
 use Rattle.step.specs.Tick.{someBroken, rowSystem, tableSystem}
 use Rattle.step.specs.Valid.{phasesValid}
@@ -148,6 +148,14 @@ module _ (table : Table) (watch : Watch) where
     pub counted-most : (i : ℕ) → i < mostRows → (event : Event)
         → countOf (getD (tablePlay table watch w .counts) i noCounts) event ≤ length w
     counted-most = Calls.play-most table watch w passes fits low
+
+    -- Realised, and open before the trace, are completed, broken, and open after it.
+    pub counted-sums : (i : ℕ) → i < length (rowsOf table)
+        → let counts = getD (tablePlay table watch w .counts) i noCounts in
+        counts .realised + bit (isOpen (getD (phasesOf watch) i Waiting))
+        ≡ counts .completed + counts .broken
+        + bit (isOpen (getD (phasesOf (tablePlay table watch w .watch)) i Waiting))
+    counted-sums = Calls.play-sums table watch w passes fits low
 
   module _ (l : ℕ) where
     pub tick-number : numberOf (tableTick table watch l .reply .outcome)

@@ -11,6 +11,7 @@ use lib.ListN.{length, getD}
 use Rattle.letters.specs.Letter.{bit}
 use Rattle.table.specs.Row.{holds, tse, ase, ac, aee, noRow}
 use Rattle.table.specs.declared.Row.{Row}
+use Rattle.traces.specs.Trace.{run}
 use Rattle.step.specs.declared.Phase.{Phase}
 use Rattle.step.specs.declared.Phase.the-variants.{Waiting, Trigger, Delay, Action, Broken}
 use Rattle.step.specs.declared.Events.{Events}
@@ -22,8 +23,9 @@ use Rattle.step.specs.Events.{isOpen, withStarted, withRealised, withAct
 use Rattle.step.specs.Events.{actionEvents, delayEvents, triggerEvents, startEvents}
 use Rattle.step.specs.Events.{rowEvents}
 use Rattle.step.specs.Events.{tickEvents, traceEvents, Event, happens, timesOf}
-use Rattle.step.specs.Tick.{tick}
+use Rattle.step.specs.Tick.{tick, tableSystem}
 use Rattle.step.specs.further.Happened.{OneEnd}
+use Rattle.step.proofs.Rows.{tick-length, tick-at}
 use Rattle.step.proofs.Pressed.{triggerDone, triggerOn, abortPhase, abortEvents}
 use Rattle.step.proofs.Pressed.{trigger-phase, trigger-events}
 
@@ -247,3 +249,18 @@ times-few event i (events ∷ more) = go (happens (getD events i noEvents) event
         → bit b + timesOf event i more ≤ suc (length more)
     go true h = omega arith
     go false h = omega arith
+
+-- Along a trace: realised, and open before it, are completed, broken, and open after it.
+pub trace-sums : (s : ℕ) (rows : List Row) (phases : List Phase) (w : List ℕ) (i : ℕ)
+    → i < length rows → i < length phases
+    → let ticks = traceEvents rows phases w in
+    timesOf Event.realised i ticks + bit (isOpen (getD phases i Waiting))
+    ≡ timesOf Event.completed i ticks + timesOf Event.broken i ticks
+    + bit (isOpen (getD (run (tableSystem s rows) phases w) i Waiting))
+unfolding traceEvents timesOf run
+trace-sums s rows phases [] i h k = refl
+trace-sums s rows phases (l ∷ w) i h k =
+    let first = open-sums (getD rows i noRow) l (getD phases i Waiting) in
+    let others = trace-sums s rows (tick rows l phases) w i h (rw (tick-length rows l phases) k) in
+    rw (events-at rows l phases i h k)
+    (omega (arith, first, rw (tick-at rows l phases i h k) at others))
