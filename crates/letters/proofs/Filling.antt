@@ -42,7 +42,7 @@ module _ {A : Type 0} (none : A) (value : ℕ → A) (n : ℕ) where
         (getD-set-same list i new none (omega (arith, f .long)) ∙ e);
   }
 
-  -- A list that is filled is every list of these values.
+  -- A list that is filled equals any other with these values.
   pub filled-all : (list other : List A) (i : ℕ) → Filled list i → n ≤ i → length other ≡ n
       → ((j : ℕ) → j < n → getD other j none ≡ value j) → list ≡ other
   filled-all list other i f past long are =

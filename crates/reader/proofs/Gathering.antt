@@ -199,7 +199,7 @@ module _ (names : List Name) (signals : ℕ) (rest : List ℕ) where
       ≡ record { outcome = Accepted; table = tableFrom signals names rows }
   rows-accepted h rows e = rows-some h ∙ ap (rowsReading names signals) e
 
--- The row of the sets and bounds at a place; rows that are filled with them are all of them.
+-- The row of the sets and bounds at a place. When every place is filled, they are those gathered.
 abbrev pub rowAt : List (List ℕ) → List (List ℕ) → ℕ → Row
 rowAt sets bounds j = rowFrom (getD sets j []) (getD bounds j [])
 

@@ -11,10 +11,10 @@ use Rattle.table.specs.Row.{holds, tse, tc, tee}
 use Rattle.table.specs.declared.Row.{Row}
 use Rattle.step.specs.declared.Phase.{Phase}
 use Rattle.step.specs.declared.Phase.the-variants.{Waiting, Trigger}
-use Rattle.step.specs.declared.Events.{Events}
 use Rattle.step.specs.Step.{delayCheck, triggerCheck, startCheck, stepRow}
 use Rattle.step.specs.Events.{eventsOf, noEvents, onlyAborted, withStarted, withRealised}
 use Rattle.step.specs.Events.{withAborted, delayEvents, triggerEvents, startEvents, rowEvents}
+use Rattle.step.specs.further.Pressed.{abortMarks}
 
 module _ (row : Row) (letter : ℕ) where
   -- How the trigger check with t ends: the trigger is realised, or goes on, or is aborted.
@@ -36,12 +36,9 @@ module _ (row : Row) (letter : ℕ) where
           let done : triggerDone t ≡ true = rw (ends, le-leb (row .tmin) t (omega arith)) in
           absurd (true≢false (sym done ∙ early))
 
-  -- What an abort leads to, and what happens at it.
+  -- What an abort leads to; `abortMarks` has what happens at it.
   abbrev pub abortPhase : Phase
   abortPhase = cond (holds row tse letter && triggerOn 0) (Trigger 1) Waiting
-
-  abbrev pub abortEvents : Events
-  abortEvents = eventsOf (holds row tse letter) false true false false false
 
   start-phase : triggerDone 0 ≡ false → startCheck row letter ≡ abortPhase
   unfolding startCheck triggerCheck
@@ -52,7 +49,7 @@ module _ (row : Row) (letter : ℕ) where
       go true on = refl
       go false on = refl
 
-  start-events : triggerDone 0 ≡ false → withAborted (startEvents row letter) ≡ abortEvents
+  start-events : triggerDone 0 ≡ false → withAborted (startEvents row letter) ≡ abortMarks row letter
   unfolding startEvents triggerEvents
   start-events early = rw early (go (holds row tse letter) (triggerOn 0))
     where
@@ -113,14 +110,14 @@ module _ (row : Row) (letter : ℕ) where
 
     pub trigger-events : rowEvents row letter (Trigger t)
         ≡ cond (triggerDone t) (withRealised (delayEvents row letter 0))
-        (cond (triggerOn t) noEvents abortEvents)
+        (cond (triggerOn t) noEvents (abortMarks row letter))
     unfolding rowEvents triggerEvents
     trigger-events = go (triggerDone t) refl (triggerOn t)
       where
         go : (done : Bool) → triggerDone t ≡ done → (on : Bool)
             → cond done (withRealised (delayEvents row letter 0))
             (cond on noEvents (withAborted (startEvents row letter)))
-            ≡ cond done (withRealised (delayEvents row letter 0)) (cond on noEvents abortEvents)
+            ≡ cond done (withRealised (delayEvents row letter 0)) (cond on noEvents (abortMarks row letter))
         go true is on = refl
         go false is true = refl
         go false is false = start-events (still-early t is)

@@ -118,7 +118,7 @@ module _ (row : Row) (letter t : ℕ) where
             (cond done (delayCheck row letter 0)
             (cond on (Trigger (t + 1)) (cond more (Trigger 1) Waiting)))
             (cond done (withRealised (delayEvents row letter 0))
-            (cond on noEvents (abortMarks row letter t)))
+            (cond on noEvents (abortMarks row letter)))
         go true is on lasts more press =
             let ends = and-left (holds row tee letter) _ is in
             let enough = leb-true (row .tmin) t (and-right (holds row tee letter) _ is) in

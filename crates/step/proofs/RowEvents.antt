@@ -25,8 +25,9 @@ use Rattle.step.specs.Events.{rowEvents}
 use Rattle.step.specs.Events.{tickEvents, traceEvents, Event, happens, timesOf}
 use Rattle.step.specs.Tick.{tick, tableSystem}
 use Rattle.step.specs.further.Happened.{OneEnd}
+use Rattle.step.specs.further.Pressed.{abortMarks}
 use Rattle.step.proofs.Rows.{tick-length, tick-at}
-use Rattle.step.proofs.Pressed.{triggerDone, triggerOn, abortPhase, abortEvents}
+use Rattle.step.proofs.Pressed.{triggerDone, triggerOn, abortPhase}
 use Rattle.step.proofs.Pressed.{trigger-phase, trigger-events}
 
 -- What the events of a check say of the phase that it leads to, where the row was open or not.
@@ -136,7 +137,7 @@ module _ (row : Row) (letter : ℕ) where
   unfolding isBroken isWaiting isOpen
   running-ends t =
       rw (trigger-phase row letter t, trigger-events row letter t)
-      (trigger-ends t (abortPhase row letter) (abortEvents row letter)
+      (trigger-ends t (abortPhase row letter) (abortMarks row letter)
       (lapses (holds row tse letter) (holds row tse letter && triggerOn row letter 0)))
     where
       lapses : (started on : Bool)

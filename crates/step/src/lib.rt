@@ -184,8 +184,8 @@ fn trigger_check(row: Row, letter: u8, t: u8, lapsed: Stepped) -> Stepped
     }
 }
 
-// What one letter does to a row that waits: the trigger starts if TSE holds, and waits again where
-// it is aborted at once.
+// What one letter does to a row that waits: its trigger starts if TSE holds. If that is aborted at
+// once, the row waits on.
 fn start_check(row: Row, letter: u8) -> Stepped
     ensures { λ r. ⌜ r ≡ stepped row letter Waiting ⌝ }
 {

@@ -66,8 +66,7 @@ added-place (counts ∷ all) (e ∷ events) zero h k = refl
 added-place (counts ∷ all) (e ∷ events) (suc i) h k =
     added-place all events i (omega arith) (omega arith)
 
--- The counts of row j with one tick's events more; counts that are filled with them are all of
--- them.
+-- The counts of row j with one tick's events more. When every place is filled, all have them.
 abbrev pub addedAt : List Counts → List Events → ℕ → Counts
 addedAt counts events j = addEvents (getD counts j noCounts) (getD events j noEvents)
 

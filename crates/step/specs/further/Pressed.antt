@@ -14,6 +14,10 @@ use Rattle.step.specs.Step.{delayCheck}
 use Rattle.step.specs.Events.{eventsOf, noEvents, withRealised, delayEvents}
 use Rattle.step.specs.further.Happened.{Realised, Aborted}
 
+-- What an abort marks: that it happened, and a start where TSE holds.
+abbrev pub abortMarks : Row → ℕ → Events
+abortMarks row letter = eventsOf (holds row tse letter) false true false false false
+
 module _ (row : Row) (letter t : ℕ) where
   -- The second check goes on: the trigger has had its most ticks, and the letter both starts it and
   -- holds it.
@@ -23,15 +27,12 @@ module _ (row : Row) (letter t : ℕ) where
     pub held : holds row tc letter ≡ true
     pub over : t ≡ row .tmax
 
-  -- What an abort marks: that it happened, and a start where TSE holds.
-  abbrev pub abortMarks : Events
-  abortMarks = eventsOf (holds row tse letter) false true false false false
-
   -- The phase after the letter, and what happened at it.
   pub data TriggerStep : Phase → Events → Type 0 where
     realised : Realised row letter (Trigger t)
         → TriggerStep (delayCheck row letter 0) (withRealised (delayEvents row letter 0))
     lasts : (holds row tee letter && leb (row .tmin) t) ≡ false → holds row tc letter ≡ true
         → t < row .tmax → TriggerStep (Trigger (t + 1)) noEvents
-    restarts : Restarted → TriggerStep (Trigger 1) abortMarks
-    waits : Aborted row letter (Trigger t) → (Restarted → ⊥) → TriggerStep Waiting abortMarks
+    restarts : Restarted → TriggerStep (Trigger 1) (abortMarks row letter)
+    waits : Aborted row letter (Trigger t) → (Restarted → ⊥)
+        → TriggerStep Waiting (abortMarks row letter)
