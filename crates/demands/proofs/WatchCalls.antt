@@ -34,9 +34,9 @@ use Rattle.watcher.specs.Answer.{firstNumber, answered, refusedWith, movedOn, t
 use Rattle.watcher.specs.inner.Tables.{tableTick, stoppedBy, playedOver, tablePlay}
 use Rattle.watcher.proofs.Counting.{times-counted}
 use Rattle.watcher.proofs.Records.{watch-phases, phases-watch}
+use Rattle.watcher.proofs.Starts.{number-is, line-is, refused-is}
 use Rattle.demands.specs.Watching.{recordAfter, eventsOver, CallValid}
-use Rattle.demands.proofs.WatchLaws.{tick-taken, after-run, after-accepted, number-is}
-use Rattle.demands.proofs.WatchLaws.{line-is, refused-is, fits-long}
+use Rattle.demands.proofs.WatchLaws.{tick-taken, after-run, after-accepted, fits-long}
 
 -- All letters of a trace are letters of the table.
 pub letters-valid : (s : ℕ) (w : List ℕ) → AllBelow (letters s) w → every (letterValid s) w ≡ true

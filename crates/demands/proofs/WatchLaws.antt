@@ -1,14 +1,13 @@
 -- Calls of the watcher, one after the other. Assumes nothing.
-use Prim.Native.Nat.{ℕ, zero, suc, _<_, _≤_}
+use Prim.Native.Nat.{ℕ, suc, _<_, _≤_}
 use native.Mathlib.Nat.{lt-of-lt-of-le}
 use native.Mathlib.Omega.{arith}
 use mathlib.Core.Bool.{true, true≢false}
 use mathlib.Core.List.{List, [], _∷_, map}
 use mathlib.Core.Path.{_≡_, refl, sym, ap, _∙_}
 use borrow.Author.Tests.{lt-ltb}
-use lib.ListN.{length, getD, replicate}
+use lib.ListN.{length, getD}
 use Rattle.letters.specs.Letter.{letters, letterValid}
-use Rattle.letters.specs.Lists.{every}
 use Rattle.letters.proofs.Lists.{and-right}
 use Rattle.table.specs.Row.{noRow}
 use Rattle.table.specs.Valid.{rowsValid}
@@ -21,7 +20,7 @@ use Rattle.step.specs.declared.Phase.the-variants.{Waiting}
 use Rattle.step.specs.Phase.{codeOf}
 use Rattle.step.specs.further.Codes.{phaseOf}
 use Rattle.step.specs.Tick.{tick, someBroken, rowSystem, tableSystem}
-use Rattle.step.specs.Valid.{phasesValid, isWaiting, phaseValid}
+use Rattle.step.specs.Valid.{phasesValid, phaseValid}
 use Rattle.step.proofs.States.{phases-back}
 use Rattle.step.proofs.Rows.{tick-valid}
 use Rattle.step.proofs.Systems.{table-lawful, run-at, run-valid}
@@ -31,7 +30,7 @@ use Rattle.watcher.specs.Watch.{phasesOf, watchOf, startWatch}
 use Rattle.watcher.specs.Answer.{firstNumber, answered, refusedWith, movedOn, tickAnswer}
 use Rattle.table.specs.further.Numbers.{numberOf, lineOf}
 use Rattle.watcher.proofs.Records.{phases-watch}
-use Rattle.table.specs.Limits.{mostRows}
+use Rattle.watcher.proofs.Starts.{start-valid, number-is, line-is, refused-is}
 use Rattle.demands.specs.Watching.{recordAfter, CallValid}
 
 module _ (s : ℕ) (rows : List Row) where
@@ -93,54 +92,12 @@ fits-long (row ∷ rows) (phase ∷ phases) h =
     omega arith
 
 -- The record before the first tick is accepted with every rules that are.
-start-waits : (n : ℕ) → every isWaiting (replicate n Waiting) ≡ true
-unfolding every isWaiting
-start-waits zero = refl
-start-waits (suc n) = start-waits n
-
-start-valid : (rows : List Row) (n : ℕ) → length rows ≤ n
-    → phasesValid rows (replicate n Waiting) ≡ true
-unfolding phasesValid phaseValid
-start-valid [] n h = start-waits n
-start-valid (row ∷ rows) zero h = absurd (omega arith)
-start-valid (row ∷ rows) (suc n) h = start-valid rows n (omega arith)
-
 pub start-accepted : (s : ℕ) (rows : List Row) → rowsValid s rows ≡ true
     → CallValid s rows startWatch
 start-accepted s rows h = record {
   rules = h;
-  state = rw phases-watch (start-valid rows mostRows (rowsValid-count s rows h .1));
+  state = start-valid rows (rowsValid-count s rows h .1);
 }
-
--- Each row of it waits.
-waits-at : (n i : ℕ) → getD (replicate n Waiting) i Waiting ≡ Waiting
-waits-at zero i = refl
-waits-at (suc n) zero = refl
-waits-at (suc n) (suc i) = waits-at n i
-
-pub start-phase : (i : ℕ) → getD (phasesOf startWatch) i Waiting ≡ Waiting
-start-phase i =
-    ap (λ (l : List Phase). getD l i Waiting) (phases-watch (replicate mostRows Waiting))
-    ∙ waits-at mostRows i
-
--- The number and the line of an answer, and what a refusal leaves.
-module _ {A : Type 0} (done : A) (refused : ℕ → A) where
-  pub number-is : (n : ℕ) (number : A → ℕ) → number done ≡ 0
-      → ((k : ℕ) → number (refused k) ≡ k) → number (answered n done refused) ≡ n
-  unfolding answered
-  number-is zero number d r = d
-  number-is (suc n) number d r = r (suc n)
-
-  pub line-is : (n : ℕ) (line : A → ℕ) → line done ≡ 0
-      → ((k : ℕ) → line (refused k) ≡ 0) → line (answered n done refused) ≡ 0
-  unfolding answered
-  line-is zero line d r = d
-  line-is (suc n) line d r = r (suc n)
-
-  pub refused-is : (n k : ℕ) → n ≡ suc k → answered n done refused ≡ refused n
-  unfolding answered
-  refused-is zero k e = absurd (omega arith)
-  refused-is (suc n) k e = refl
 
 module _ (s : ℕ) (rows : List Row) (watch : Watch) (l : ℕ) where
   abbrev done : Ticked

@@ -33,9 +33,9 @@ use Rattle.watcher.specs.Answer.{firstNumber, nothingHappened, tickAnswer}
 use Rattle.watcher.specs.inner.Tables.{tableTick, tablePlay}
 use Rattle.table.specs.further.Numbers.{numberOf, lineOf}
 use Rattle.watcher.proofs.Records.{watch-phases, phases-watch}
+use Rattle.watcher.proofs.Starts.{start-phase}
 use Rattle.demands.specs.Watching.{recordAfter, eventsOver, CallValid}
 use Rattle.demands.proofs.WatchLaws as Laws
-use Rattle.demands.proofs.WatchLaws.{start-phase}
 use Rattle.demands.proofs.WatchCalls as Calls
 
 -- Numbers 17 and 18 let the record by that the watcher starts with.
