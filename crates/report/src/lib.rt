@@ -27,7 +27,7 @@ fn numbered(out: &mut [u8], at: usize, word: &[u8], n: u16) -> usize
         (now (out .exit)) ⌝ }
 {
     let number = put::word(out, at, word);
-    let end = put::decimal(out, number, n);
+    let end = put::decimal(out, number, n as u32);
     put::byte(out, end, LF)
 }
 
@@ -37,7 +37,7 @@ fn tick_line(out: &mut [u8], at: usize, signals: u8, tick: u16, letter: u8) -> u
         (now (out .exit)) ⌝ }
 {
     let number = put::word(out, at, b"tick ");
-    let space = put::decimal(out, number, tick);
+    let space = put::decimal(out, number, tick as u32);
     let first = put::byte(out, space, b' ');
     let end = put::signal_values(out, first, signals, letter);
     put::byte(out, end, LF)
@@ -80,7 +80,7 @@ fn refused(out: &mut [u8], at: usize, refusal: Refusal) -> usize
         (now (out .entry)) r (now (out .exit)) ⌝ }
 {
     let number = put::word(out, at, b"refused ");
-    let word = put::decimal(out, number, refusal.number as u16);
+    let word = put::decimal(out, number, refusal.number as u32);
     numbered(out, word, b" line ", refusal.line as u16)
 }
 

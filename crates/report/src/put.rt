@@ -1,11 +1,13 @@
 // Bytes, words and numbers put into a lent buffer from a place on: each answers the next place.
 // What the buffer has no place for is left out, and still counted.
-ghost use mathlib.Core.List.{[], _∷_};
+ghost use mathlib.Core.List.{[], _∷_, _++_};
 ghost use mathlib.Core.Path.{_≡_};
 ghost use lib.ListN.{set};
 ghost use Rattle.text.specs.Bounds.{decimal as decimalOf};
+ghost use Rattle.text.specs.Bytes.{bytes};
 ghost use Rattle.report.specs.inner.Puts.{Puts, Countable};
-ghost use Rattle.report.specs.Report.{signalValues, rowNumbers, spaced, spacedOrDash};
+ghost use Rattle.report.specs.Report.{signalValues, rowNumbers, spacedOrDash};
+ghost use Rattle.report.specs.Report.{spaced as spacedOf};
 
 fn store(out: &mut [u8], at: usize, b: u8)
     ensures { λ _. ⌜ now (out .exit) ≡ set (now (out .entry)) at b ⌝ }
@@ -36,7 +38,7 @@ pub(crate) fn word(out: &mut [u8], at: usize, bytes: &[u8]) -> usize
 }
 
 // A number in base ten.
-pub(crate) fn decimal(out: &mut [u8], at: usize, n: u16) -> usize
+pub(crate) fn decimal(out: &mut [u8], at: usize, n: u32) -> usize
     requires { ⌜ Countable at (decimalOf n) ⌝ }
     ensures { λ r. ⌜ Puts at (decimalOf n) (now (out .entry)) r (now (out .exit)) ⌝ }
 {
@@ -45,6 +47,15 @@ pub(crate) fn decimal(out: &mut [u8], at: usize, n: u16) -> usize
     }
     let last = decimal(out, at, n / 10);
     byte(out, last, b'0' + (n % 10) as u8)
+}
+
+// A number after a space.
+pub(crate) fn spaced(out: &mut [u8], at: usize, n: u32) -> usize
+    requires { ⌜ Countable at (bytes " " ++ decimalOf n) ⌝ }
+    ensures { λ r. ⌜ Puts at (bytes " " ++ decimalOf n) (now (out .entry)) r (now (out .exit)) ⌝ }
+{
+    let number = byte(out, at, b' ');
+    decimal(out, number, n)
 }
 
 // The value of each signal at a letter, `0` or `1`.
@@ -65,8 +76,8 @@ pub(crate) fn signal_values(out: &mut [u8], at: usize, signals: u8, letter: u8) 
 
 // The number of each row in a set, after a space. Bit r is row r + 1.
 fn row_numbers(out: &mut [u8], at: usize, rows: u8, set: u64) -> usize
-    requires { ⌜ Countable at (spaced (rowNumbers rows 0 set)) ⌝ }
-    ensures { λ r. ⌜ Puts at (spaced (rowNumbers rows 0 set)) (now (out .entry)) r
+    requires { ⌜ Countable at (spacedOf (rowNumbers rows 0 set)) ⌝ }
+    ensures { λ r. ⌜ Puts at (spacedOf (rowNumbers rows 0 set)) (now (out .entry)) r
         (now (out .exit)) ⌝ }
 {
     let mut next = at;
@@ -74,8 +85,7 @@ fn row_numbers(out: &mut [u8], at: usize, rows: u8, set: u64) -> usize
     let mut row: u16 = 1;
     while row <= rows as u16 {
         if bits % 2 == 1 {
-            let number = byte(out, next, b' ');
-            next = decimal(out, number, row);
+            next = spaced(out, next, row as u32);
         }
         bits = bits / 2;
         row += 1;

@@ -18,7 +18,6 @@ use Rattle.report.specs.inner.Puts.{Puts, Countable}
 use Rattle.report.specs.Report.{rowNumbers, spaced}
 use Rattle.report.proofs.Puts.{Putting, putting-start, putting-on, putting-end}
 use Rattle.report.proofs.Puts.{putting-length, putting-countable}
-use Rattle.report.proofs.Puts.{puts-append, countable-front, countable-after}
 use Rattle.report.proofs.put.row_numbers.Statement.{statement}
 use Rattle.report.proofs.put.row_numbers.Tie as tie
 
@@ -105,22 +104,13 @@ abbrev μ-loop : tie.MeasureT-loop
 loop-holds : tie.Need-loop-holds Inv-loop μ-loop
 loop-holds c = done-start _ _ _ _
 
--- The number of a row in the set is not too far behind.
-listed-countable : (c : tie.Then1 Inv-loop μ-loop) → Countable (c .before .before .loop .next)
-    (bytes " " ++ decimal (c .before .before .loop .row))
-listed-countable c =
-    let test = c .before in
+spaced-requires : tie.Need-spaced-requires Inv-loop μ-loop
+spaced-requires c κs =
+    let listed = c .before in
+    let test = listed .before in
     let loop = test .before in
-    number-countable (loop .loop .inv) (omega (arith, test .loop-test .taken)) (c .if1 .taken)
+    number-countable (loop .loop .inv) (omega (arith, test .loop-test .taken)) (listed .if1 .taken)
     (loop .before .before .pre)
-
-byte-requires : tie.Need-byte-requires Inv-loop μ-loop
-byte-requires c κs = countable-front _ _ _ (listed-countable (c .before))
-
-decimal-requires : tie.Need-decimal-requires Inv-loop μ-loop
-decimal-requires c κs =
-    let space = c .before .before .before in
-    countable-after (space .byte .ensures) _ (listed-countable (space .before .before))
 
 loop-again : tie.Need-loop-again Inv-loop μ-loop
 loop-again c =
@@ -129,8 +119,7 @@ loop-again c =
     let low : loop .row ≤ test .before .before .before .args .rows =
     omega (arith, test .loop-test .taken) in
     ⊎-elim
-    (λ w. rw (w .9, w .10) (done-on (loop .inv) low (w .0 .taken)
-    (puts-append (w .2 .ensures) (w .6 .ensures))))
+    (λ w. rw (w .5, w .6) (done-on (loop .inv) low (w .0 .taken) (w .2 .ensures)))
     (λ w. rw (w .1, w .2) (done-off (loop .inv) low (w .0 .left)))
     (c .if1 .came)
 
@@ -144,5 +133,5 @@ returns c = putting-end (c .before .loop .inv .putting) (none-left (c .before .l
 pub row-numbers-spec : {M : Type 1} → statement M
 row-numbers-spec =
     tie.close (tie.spec
-    Inv-loop μ-loop loop-holds byte-requires decimal-requires (λ c. search needs)
+    Inv-loop μ-loop loop-holds (λ c. search needs) spaced-requires (λ c. search needs)
     (λ c. search needs) loop-again same-length returns)
