@@ -1,0 +1,4 @@
+-- The load.
+pub mod Load
+pub mod further
+pub mod inner

@@ -1,0 +1,3 @@
+-- What only the further promises speak of.
+pub mod Numbers
+pub mod Balance

@@ -1,0 +1,19 @@
+-- What the totals of a row come to, and what is open.
+use Prim.Native.Nat.{ℕ, _+_}
+use mathlib.Core.Path.{_≡_}
+use Rattle.step.specs.declared.Phase.{Phase}
+use Rattle.step.specs.declared.Phase.the-variants.{Delay, Action}
+use Rattle.load.specs.declared.Sums.{Sums}
+use Rattle.load.specs.declared.Totals.{Totals}
+
+-- "For each row realised equals completed plus broken plus open"; and so of sums.
+abbrev pub Balanced : Totals → Type 0
+Balanced t = t .realised ≡ t .completed + t .breaks + t .pending
+
+abbrev pub SumsBalanced : Sums → Type 0
+SumsBalanced t = t .realised ≡ t .completed + t .breaks + t .pending
+
+-- "Open means in delay or action."
+pub data Open : Phase → Type 0 where
+  delay : (d : ℕ) → Open (Delay d)
+  action : (a : ℕ) → Open (Action a)
