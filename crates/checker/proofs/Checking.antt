@@ -9,6 +9,7 @@ use Rattle.reader.specs.inner.File.{readAnswer}
 use Rattle.search.specs.Lent.{Lent}
 use Rattle.checker.specs.FileReport.{Call}
 use Rattle.checker.specs.inner.Computed.{afterReading, checkAnswer}
+use Rattle.checker.specs.inner.Computed.{afterLoading, loadAnswer}
 
 module _ (bytes : List ℕ) (lent : Lent) {reading : Reading} (read : reading ≡ readAnswer bytes)
   where
@@ -21,6 +22,18 @@ module _ (bytes : List ℕ) (lent : Lent) {reading : Reading} (read : reading �
         → checkAnswer bytes lent ≡ afterReading Accepted (reading .table) lent
     unfolding checkAnswer
     accepted-checked e = rw (← read, e)
+
+-- And its totals.
+module _ (bytes : List ℕ) {reading : Reading} (read : reading ≡ readAnswer bytes) where
+  pub refused-loaded : {refusal : Refusal} → reading .outcome ≡ Refused refusal
+      → loadAnswer bytes ≡ afterLoading (Refused refusal) (reading .table)
+  unfolding loadAnswer
+  refused-loaded e = rw (← read, e)
+
+  pub accepted-loaded : reading .outcome ≡ Accepted
+      → loadAnswer bytes ≡ afterLoading Accepted (reading .table)
+  unfolding loadAnswer
+  accepted-loaded e = rw (← read, e)
 
 -- Two calls are the same if their numbers and buffers are.
 pub call-same : {m n : ℕ} {one other : List ℕ} {lent : Lent} → (m ≡ n) × (one ≡ other)

@@ -2,3 +2,4 @@
 -- a report can be.
 pub mod Checking
 pub mod ReportLength
+pub mod TotalsLength

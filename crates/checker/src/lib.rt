@@ -1,5 +1,6 @@
-// The checker: the bytes of a table file in, the bytes of its report out. specs/FileReport.antt
-// says what is right, for every file and all lent memory.
+// The checker: the bytes of a table file in, the bytes of its report or of its totals out.
+// specs/FileReport.antt and specs/FileLoad.antt say what is right, for every file and all lent
+// memory.
 use table::Outcome;
 use verdict::Found;
 ghost use mathlib.Core.Path.{_≡_};
@@ -8,10 +9,15 @@ ghost use Rattle.verdict.specs.Buffer.{written};
 ghost use Rattle.search.specs.Lent.{lentLists};
 ghost use Rattle.checker.specs.FileReport.{programLent};
 ghost use Rattle.checker.specs.inner.Computed.{checkCall};
-ghost use Rattle.checker.specs.inner.Computed.{checkAnswer};
+ghost use Rattle.checker.specs.inner.Computed.{checkAnswer, loadAnswer};
 
 // "The program lends room 4,096 and a trace buffer of as many bytes."
 const ROOM: usize = 4096;
+
+// "Takes 1,000 ticks from 1".
+const LOAD_START: u32 = 1;
+
+const LOAD_TICKS: u32 = 1000;
 
 // Reads the file, searches its table with the scratch and the trace buffer that are lent, writes
 // the report from the front of `out`, and answers the report's length. If that is more than `out`
@@ -67,4 +73,24 @@ pub fn check_file(bytes: &[u8], out: &mut [u8]) -> usize
         &mut trace,
         out,
     )
+}
+
+// Reads the file, runs its table through the load of the program `loadtable`, writes the totals
+// from the front of `out`, and answers their length. If that is more than `out` holds, `out` has
+// their front.
+pub fn load_file(bytes: &[u8], out: &mut [u8]) -> usize
+    ensures { λ r. ⌜ r ≡ length (loadAnswer (now (bytes .entry))) ⌝ }
+    ensures { λ _. ⌜ now (out .exit)
+        ≡ written (loadAnswer (now (bytes .entry))) (now (out .entry)) ⌝ }
+{
+    let read = reader::read(bytes);
+    let outcome = read.outcome;
+    match outcome {
+        Outcome::Refused(refusal) => report::totals::write(load::refused(refusal), 0, out),
+        Outcome::Accepted => {
+            let table = read.table;
+            let ran = load::run(table, LOAD_START, LOAD_TICKS);
+            report::totals::write(ran, table.count, out)
+        }
+    }
 }

@@ -2,11 +2,9 @@
 // comes from `checker::check_file`; here bytes come in and go out. What fails is said on standard
 // error, and nothing is printed then.
 use input::Input;
+use input::MOST_READ;
 use libc::STDIN_FILENO;
 use libc::STDOUT_FILENO;
-
-// The first bytes of a file that is too long are enough to say so.
-const MOST_READ: usize = 4097;
 
 // No report is longer: `mostReport` of the crate checker.
 const MOST_REPORT: usize = 70000;

@@ -10,11 +10,13 @@ use Rattle.reader.specs.Reading.{emptyTable}
 use Rattle.verdict.specs.Found.{refusedFound, soundFound}
 use Rattle.search.specs.Lent.{Lent, roomOf, cleared}
 use Rattle.search.specs.inner.Computed.{searchAnswer}
-use Rattle.checker.specs.inner.Computed.{checkAnswer}
+use Rattle.checker.specs.inner.Computed.{checkAnswer, loadAnswer}
 use Rattle.demands.specs.examples.Cases.{P as rowP, Q as rowQ, S as rowS, report, delayed}
 use Rattle.demands.specs.examples.Cases.{isRight, noRows}
 use Rattle.demands.specs.examples.Cases.{ListCaseMeans, listCases, pressedCase}
 use Rattle.demands.specs.examples.Cases.{starred, CaseMeans, EventCaseMeans, eventCases}
+use Rattle.demands.specs.examples.Loads.{FirstNumbers, LoadCaseMeans, loadCases}
+use Rattle.demands.specs.examples.Loads.{wholeTotals}
 use Rattle.demands.specs.examples.Texts.{textP, textNotC, textQ, textS, textDelayed}
 use Rattle.demands.specs.examples.Texts.{fileOf, ReadAs}
 use Rattle.demands.specs.examples.Texts.{wholeOutput}
@@ -23,6 +25,7 @@ use Rattle.demands.specs.Searching.{Entered}
 use Rattle.demands.proofs.Starred as Starred
 use Rattle.demands.proofs.Instances as Instances
 use Rattle.demands.proofs.WholeReport as WholeReport
+use Rattle.demands.proofs.LoadCases as LoadCases
 
 -- "The starred cases, gathered in a table that one proposition covers, over the definitions."
 pub starred-right : every isRight starred ≡ true
@@ -52,6 +55,17 @@ boards-read = WholeReport.boards-read
 pub whole-report : (lent : Lent) → 2 ≤ roomOf lent → 1 ≤ length (lent .trace)
     → checkAnswer (fileOf (textP ∷ textNotC ∷ [])) lent .report ≡ wholeOutput
 whole-report = WholeReport.whole-report
+
+-- The load of document 02, ask 5: its first numbers and letters, what rows did in it, and what is
+-- printed of the same input, to the byte.
+pub numbers-worked : FirstNumbers
+numbers-worked = LoadCases.numbers-worked
+
+pub loads-worked : All LoadCaseMeans loadCases
+loads-worked = LoadCases.loads-worked
+
+pub whole-load : loadAnswer (fileOf (textP ∷ textNotC ∷ [])) ≡ wholeTotals
+whole-load = LoadCases.whole-load
 
 -- No promise is empty: each other answer of the search has an instance too. "P alone: sound, two
 -- states; room 1 is refused with 20"; the report's table is 21 with no buffer, and the empty table

@@ -1,8 +1,8 @@
 -- The promises, in the words of the demands. This file and the specs are all that has to be
 -- believed. What each function answers, refused or not, is its contract in src/: one equation with
 -- a definition of the specs; here stands what follows of those definitions. More is promised, by
--- subject, in `Reading`, `Watching`, `Happening`, `Searching`, `Reporting` and `Cases`. Assumes
--- nothing.
+-- subject, in `Reading`, `Watching`, `Happening`, `Searching`, `Reporting`, `Loading` and `Cases`.
+-- Assumes nothing.
 use Prim.Native.Nat.{ℕ, suc, _<_, _≤_}
 use mathlib.Core.Bool.{true}
 use mathlib.Core.List.{List}
@@ -33,6 +33,8 @@ use Rattle.reader.specs.inner.File.{readAnswer}
 use Rattle.reader.specs.declared.Reading.{Reading as FileReading}
 use Rattle.reader.proofs.Found as ReadingFound
 use Rattle.reader.proofs.Only as ReadingOnly
+use Rattle.load.specs.Load.{loadOf, totalsOf, noTotals, longestRun, runAnswer}
+use Rattle.load.specs.further.Balance.{Balanced, Open}
 use Rattle.verdict.specs.declared.RowLists.{RowLists}
 use Rattle.verdict.specs.Found.{Verdict, valuesOf, soundFound, trappedFound}
 use Rattle.search.specs.Lent.{Lent, Searched, roomOf, systemOf, traced}
@@ -42,13 +44,15 @@ use Rattle.demands.specs.Searching.{searchValues, Dead, EarliestDead, Ca
 use Rattle.demands.specs.Searching.{RightLists}
 use Rattle.demands.specs.Searching.{Entered, RightAnswer, SameLengths, SameScratch}
 use Rattle.demands.specs.Reporting.{RightReport}
+use Rattle.demands.specs.Loading.{RightLoad}
 use Rattle.checker.specs.FileReport.{FileReport}
-use Rattle.checker.specs.inner.Computed.{checkAnswer}
+use Rattle.checker.specs.inner.Computed.{checkAnswer, loadAnswer}
 use Rattle.demands.proofs.Reading as Reading
 use Rattle.demands.proofs.Watching as Watching
 use Rattle.demands.proofs.Happening as Happening
 use Rattle.demands.proofs.Searching as Searching
 use Rattle.demands.proofs.Reported as Reported
+use Rattle.demands.proofs.Loading as Loading
 use Rattle.demands.proofs.WatchLaws as WatchLaws
 use Rattle.demands.proofs.Answers as Answers
 use Rattle.demands.proofs.SearchLaws as SearchLaws
@@ -220,3 +224,35 @@ module _ (bytes : List ℕ) (lent : Lent) where
   -- The program reads no more of a file than its first 4,097 bytes: they have the report of all.
   pub first-bytes : checkAnswer (take (suc mostBytes) bytes) lent ≡ checkAnswer bytes lent
   first-bytes = Reported.first-bytes bytes lent
+
+-- Document 02, ask 5, totals after a burn-in: any file has one of the two texts of `RightLoad`, and
+-- no other.
+module _ (bytes : List ℕ) where
+  pub load-answered : RightLoad bytes (loadAnswer bytes)
+  load-answered = Loading.load-answered bytes
+
+  pub load-text-only : (text : List ℕ) → RightLoad bytes text → loadAnswer bytes ≡ text
+  load-text-only = Loading.load-text-only bytes
+
+-- What a run of an accepted table gives for row i, from any number: "The first three equal the
+-- counts in the run's events", those of one call of the watcher for each letter; "Open means in
+-- delay or action", after the last.
+module _ (table : Table) (start ticks : ℕ) (passes : tableValid table ≡ true)
+    (few : ticks ≤ longestRun) (i : ℕ) (used : i < length (rowsOf table)) where
+  pub run-counts : let totals = getD (runAnswer table start ticks .totals) i noTotals in
+      let events = eventsOver (table .signals) (rowsOf table) startWatch
+      (loadOf (table .signals) start ticks) in
+      (totals .realised ≡ timesOf Event.realised i events)
+      × (totals .completed ≡ timesOf Event.completed i events)
+      × (totals .breaks ≡ timesOf Event.broken i events)
+  run-counts = Loading.run-counts table start ticks passes few i used
+
+  pub run-open : let totals = getD (runAnswer table start ticks .totals) i noTotals in
+      (totals .pending ≡ 1)
+      ↔ Open (getD (phasesOf (recordAfter (table .signals) (rowsOf table) startWatch
+      (loadOf (table .signals) start ticks))) i Waiting)
+  run-open = Loading.run-open table start ticks passes few i used
+
+-- "For each row realised equals completed plus broken plus open, for any load": for any trace.
+pub trace-balance : (s : ℕ) (row : Row) (w : List ℕ) → Balanced (totalsOf s row w)
+trace-balance = Loading.trace-balance

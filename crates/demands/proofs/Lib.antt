@@ -1,18 +1,21 @@
 -- Read `Demands` and the specs: nothing else has to be believed. What is promised besides stands by
--- subject: `Reading`, `Watching`, `Happening`, `Searching`, `Reporting`, `Cases`. Below them are
--- proofs: `WatchLaws`, `WatchCalls`; `VerdictMeaning`, `Answers`, `SearchLaws`, `Entries`,
--- `EarliestTrap`, `SameInput`, `StateNumbers`, `ScratchLaws`, `NeverFires` and `Described` of the
--- search; `ReportLaws` and `Reported`; `Starred`, `WholeReport` and `Instances` of the worked
--- cases.
+-- subject: `Reading`, `Watching`, `Happening`, `Searching`, `Reporting`, `Loading`, `Cases`. Below
+-- them are proofs: `WatchLaws`, `WatchCalls`; `LoadLaws`, `LoadTexts`; `VerdictMeaning`, `Answers`,
+-- `SearchLaws`, `Entries`, `EarliestTrap`, `SameInput`, `StateNumbers`, `ScratchLaws`, `NeverFires`
+-- and `Described` of the search; `ReportLaws` and `Reported`; `Starred`, `WholeReport`, `LoadCases`
+-- and `Instances` of the worked cases.
 pub mod Demands
 pub mod Reading
 pub mod Watching
 pub mod Happening
 pub mod Searching
 pub mod Reporting
+pub mod Loading
 pub mod Cases
 pub mod WatchLaws
 pub mod WatchCalls
+pub mod LoadLaws
+pub mod LoadTexts
 pub mod VerdictMeaning
 pub mod Answers
 pub mod SearchLaws
@@ -27,4 +30,5 @@ pub mod ReportLaws
 pub mod Reported
 pub mod Starred
 pub mod WholeReport
+pub mod LoadCases
 pub mod Instances

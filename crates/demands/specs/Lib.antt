@@ -1,6 +1,7 @@
 pub mod Watching
 pub mod Searching
 pub mod Reporting
+pub mod Loading
 pub mod examples
 pub mod further
 pub mod inner

@@ -2,3 +2,4 @@
 -- tables speaks of them.
 pub mod Cases
 pub mod Texts
+pub mod Loads

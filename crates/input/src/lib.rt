@@ -5,6 +5,9 @@ ghost use Prim.Native.Nat.{_≤_};
 ghost use lib.ListN.{length};
 ghost use Rattle.input.specs.Input.{pieceOf, Brought, Reads};
 
+// So much of a table file is read: of one that is too long the first bytes are enough to say so.
+pub const MOST_READ: usize = 4097;
+
 // What one call of the C library's `read` brought: so many bytes, the end of the input, or nothing
 // since it failed.
 pub enum Piece {

@@ -39,10 +39,10 @@ use Rattle.report.specs.further.Trace.{TraceInBuffer}
 use Rattle.report.proofs.Listing.{or-dash-free, row-line-injective}
 
 -- No line has an LF in it.
-numbered-free : (word : List ℕ) (n : ℕ) → count LF word ≡ 0 → count LF (word ++ decimal n) ≡ 0
+pub numbered-free : (word : List ℕ) (n : ℕ) → count LF word ≡ 0 → count LF (word ++ decimal n) ≡ 0
 numbered-free word n h = count-append LF word (decimal n) ∙ rw (h, decimal-free LF refl n)
 
-refused-free : (m n : ℕ) → count LF (refusedLine m n) ≡ 0
+pub refused-free : (m n : ℕ) → count LF (refusedLine m n) ≡ 0
 unfolding count
 refused-free m n =
     numbered-free (bytes "refused " ++ decimal m ++ (bytes " line ")) n
@@ -98,7 +98,7 @@ module _ (signals : ℕ) where
       (and (numbered-free (bytes "lost ") (trap .lost) refl) (lists-free rows (summary .lists)))))))
 
 -- Byte k of line i.
-abbrev byteAt : ℕ → ℕ → List (List ℕ) → ℕ
+abbrev pub byteAt : ℕ → ℕ → List (List ℕ) → ℕ
 byteAt i k ls = getD (getD ls i []) k 0
 
 -- Lines that are the same are of the same numbers.
@@ -106,7 +106,7 @@ numbered-injective : (word : List ℕ) (m n : ℕ) → word ++ decimal m ≡ wor
 numbered-injective word m n e =
     decimal-injective m n (append-cancel-left word (decimal m) (decimal n) e)
 
-refused-injective : (r s : Refusal)
+pub refused-injective : (r s : Refusal)
     → refusedLine (r .number) (r .line) ≡ refusedLine (s .number) (s .line) → r ≡ s
 refused-injective r s e =
     let rest = drop 1 (bytes " line ") in

@@ -83,14 +83,25 @@ module _ (k most : ℕ) (enough : k + 2 ≤ most) (set : ℕ) where
       rw (length-append, length-append) (omega arith)
 
 -- The lines of a report, line by line.
-more-length : (line : List ℕ) (more : List (List ℕ))
+pub more-length : (line : List ℕ) (more : List (List ℕ))
     → length (ended (line ∷ more)) ≡ suc (length line) + length (ended more)
 unfolding ended
 more-length line more = rw length-append (omega arith)
 
-both-length : (xs ys : List (List ℕ))
+pub both-length : (xs ys : List (List ℕ))
     → length (ended (xs ++ ys)) ≡ length (ended xs) + length (ended ys)
 both-length xs ys = rw (ended-append xs ys, length-append)
+
+pub one-length : (line : List ℕ) → length (ended (line ∷ [])) ≡ suc (length line)
+unfolding ended
+one-length line = rw length-append (omega arith)
+
+pub refused-length : (m n : ℕ) → m < 1000 → n < 1000
+    → length (ended (refusedLine m n ∷ [])) ≤ 21
+refused-length m n low-m low-n =
+    let number = decimal-length 2 m low-m in
+    let line = decimal-length 2 n low-n in
+    rw (one-length, length-append, length-append, length-append) (omega arith)
 
 last-length : (k : ℕ) (word : List ℕ) (n : ℕ) → n < 10 ^ suc k
     → length (ended ((word ++ decimal n) ∷ [])) ≤ length word + k + 2
@@ -143,19 +154,8 @@ module _ (rows signals ticks : ℕ) (buffer : List ℕ) (low : signals ≤ mostS
       → length (reportBytes rows signals buffer found) ≤ 17 * ticks + 100
   unfolding reportLines
   report-short (Refused r) few =
-      let number = decimal-length 2 (r .number) (few .number) in
-      let line = last-length 2 (bytes "refused " ++ decimal (r .number) ++ bytes " line ")
-      (r .line)
-      (few .line) in
-      let words = length-append (bytes "refused " ++ decimal (r .number)) (bytes " line ") in
-      omega (
-        arith,
-        line,
-        number,
-        words,
-        length-append (bytes "refused ") (decimal (r .number)),
-        more-length heading (refusedLine (r .number) (r .line) ∷ []),
-      )
+      let line = refused-length (r .number) (r .line) (few .number) (few .line) in
+      omega (arith, line, more-length heading (refusedLine (r .number) (r .line) ∷ []))
   report-short (Sound summary) few =
       let sizes = sizeLines rows (summary .count) in
       let lists = listLines rows (summary .lists) in

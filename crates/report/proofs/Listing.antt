@@ -21,7 +21,7 @@ use Rattle.text.proofs.Decimals.{decimal-injective}
 use Rattle.text.proofs.Splits.{count-append, front-append, front-whole}
 use Rattle.report.specs.Report.{rowNumbers, spaced, spacedOrDash}
 
-spaced-free : (b : ℕ) → within 48 57 b ≡ false → eqb space b ≡ false
+pub spaced-free : (b : ℕ) → within 48 57 b ≡ false → eqb space b ≡ false
     → (numbers : List ℕ) → count b (spaced numbers) ≡ 0
 unfolding spaced count
 spaced-free b digit blank [] = refl
@@ -44,7 +44,7 @@ number-front number (next ∷ more) =
     front-append space (decimal number) (decimal next ++ spaced more)
     (decimal-free space refl number)
 
-spaced-injective : (xs ys : List ℕ) → spaced xs ≡ spaced ys → xs ≡ ys
+pub spaced-injective : (xs ys : List ℕ) → spaced xs ≡ spaced ys → xs ≡ ys
 unfolding spaced
 spaced-injective [] [] e = refl
 spaced-injective [] (y ∷ ys) e = absurd (omega (arith, ap length e))

@@ -1,4 +1,5 @@
 -- The report.
 pub mod Report
+pub mod Totals
 pub mod further
 pub mod inner

@@ -1,6 +1,7 @@
 // The report, to the byte, of what is found of a table. specs/Report.antt says what is right, for
 // all that can be found and every lent buffer.
 mod put;
+pub mod totals;
 
 use table::Refusal;
 use text::LF;
@@ -74,7 +75,7 @@ fn row_line(out: &mut [u8], at: usize, word: &[u8], rows: u8, set: u64) -> usize
 }
 
 // The lines after the heading: the refusal; the table's size; the trap; and the lists of rows.
-fn refused(out: &mut [u8], at: usize, refusal: Refusal) -> usize
+pub(crate) fn refused(out: &mut [u8], at: usize, refusal: Refusal) -> usize
     requires { ⌜ at ≤ 100 ⌝ }
     ensures { λ r. ⌜ Puts at (refusedLine (refusal .number) (refusal .line) ++ lineEnd ∷ [])
         (now (out .entry)) r (now (out .exit)) ⌝ }

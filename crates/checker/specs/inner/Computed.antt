@@ -1,4 +1,4 @@
--- The report of a file, computed: `RightReport` describes it.
+-- The report of a file and its totals, computed: `RightReport` and `RightLoad` describe them.
 use Prim.Native.Nat.{ℕ}
 use mathlib.Core.List.{List}
 use Rattle.table.specs.declared.Outcome.{Outcome}
@@ -8,7 +8,10 @@ use Rattle.reader.specs.inner.File.{readAnswer}
 use Rattle.verdict.specs.declared.Found.the-variants.{Refused as FoundRefused}
 use Rattle.search.specs.Lent.{Lent}
 use Rattle.search.specs.inner.Computed.{searchAnswer}
+use Rattle.load.specs.Load.{notRun, runAnswer}
 use Rattle.report.specs.Report.{reportBytes}
+use Rattle.report.specs.Totals.{runBytes}
+use Rattle.checker.specs.FileLoad.{loadStart, loadTicks}
 use Rattle.checker.specs.FileReport.{FileReport, Call, callOf}
 
 -- A refused file is not searched, and lent memory is unchanged then.
@@ -30,3 +33,12 @@ checkAnswer bytes lent =
 
 abbrev pub checkCall : List ℕ → Lent → List ℕ → Call
 checkCall bytes lent out = callOf (checkAnswer bytes lent) out
+
+-- "`loadtable` reads a table, takes 1,000 ticks from 1 and prints".
+abbrev pub afterLoading : Outcome → Table → List ℕ
+afterLoading (Refused refusal) table = runBytes 0 (notRun (Refused refusal))
+afterLoading Accepted table = runBytes (table .count) (runAnswer table loadStart loadTicks)
+
+unfoldable pub loadAnswer : List ℕ → List ℕ
+loadAnswer bytes =
+    let reading = readAnswer bytes in afterLoading (reading .outcome) (reading .table)

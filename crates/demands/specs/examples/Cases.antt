@@ -44,7 +44,7 @@ abbrev always : ℕ
 always = setOf 4 (λ letter. true)
 
 -- A row by its sets and its bounds, Tmin to Amax.
-abbrev timed : List ℕ → ℕ → ℕ → ℕ → ℕ → ℕ → ℕ → Row
+abbrev pub timed : List ℕ → ℕ → ℕ → ℕ → ℕ → ℕ → ℕ → Row
 timed sets tmin tmax lmin lmax amin amax = record {
   sets = sets;
   tmin = tmin;

@@ -1,0 +1,95 @@
+-- What `loadtable` prints of a file: `RightLoad`, and nothing else. Assumes nothing.
+use Prim.Native.Nat.{ℕ, suc, _<_, _≤_}
+use native.Mathlib.Decide.{decLe}
+use native.Mathlib.Omega.{arith}
+use mathlib.Core.List.{List, [], _∷_, _++_, map}
+use mathlib.Core.Path.{_≡_, sym, ap, subst, _∙_}
+use lib.ListN.{length, take, length-map}
+use lib.Seq.{length-take-le, take-all, take-at, take-append-seam}
+use Rattle.table.specs.Limits.{mostBytes, mostRows}
+use Rattle.table.specs.Valid.{rowsOf}
+use Rattle.table.specs.declared.Row.{Row}
+use Rattle.table.specs.declared.Table.{Table}
+use Rattle.text.specs.Lines.{ended}
+use Rattle.reader.specs.Grammar.{IsFile}
+use Rattle.reader.specs.Right.{RightReading, is2}
+use Rattle.reader.specs.inner.File.{readAnswer}
+use Rattle.reader.proofs.Accepted.{Decided, taken, turned, read-decided, file-accepted}
+use Rattle.reader.proofs.Valid.{file-valid}
+use Rattle.reader.proofs.Found.{read-answered}
+use Rattle.reader.proofs.Only.{read-only}
+use Rattle.load.specs.declared.Ran.{Ran}
+use Rattle.load.specs.declared.Totals.{Totals}
+use Rattle.load.specs.Load.{loadOf, totalsOf, totalsOver, sumsOf, runAnswer}
+use Rattle.load.proofs.Runs.{run-taken}
+use Rattle.report.specs.Totals.{totalsLines, sumsLine, runLines, runBytes}
+use Rattle.checker.specs.FileLoad.{loadStart, loadTicks}
+use Rattle.checker.specs.inner.Computed.{loadAnswer}
+use Rattle.demands.specs.Loading.{loadTotals, RightLoad}
+use Rattle.demands.specs.Loading.RightLoad.{refused, loaded}
+use Rattle.demands.specs.further.Load.{LoadPrints}
+use Rattle.demands.specs.further.Load.LoadPrints.{refused as refusal, totals}
+
+-- The table of a file has all rows that it counts.
+module _ (bytes : List ℕ) (table : Table) (file : IsFile bytes table) where
+  rows-are : rowsOf table ≡ file .rows
+  rows-are = ap rowsOf (file .table-is) ∙ take-append-seam (file .rows) _
+
+  rows-counted : length (rowsOf table) ≡ table .count
+  rows-counted = ap length rows-are ∙ sym (ap (λ (t : Table). t .count) (file .table-is))
+
+  each-counted : length (loadTotals table) ≡ table .count
+  each-counted = length-map (rowsOf table) _ ∙ rows-counted
+
+  -- What the program prints of it.
+  text-is : runBytes (table .count) (runAnswer table loadStart loadTicks)
+      ≡ ended (totalsLines 1 (loadTotals table) ++ sumsLine (sumsOf (loadTotals table)) ∷ [])
+  unfolding runLines totalsOver
+  text-is =
+      rw (
+        run-taken table loadStart loadTicks (file-valid bytes table file) (omega arith),
+        take-at (loadTotals table) _ (table .count) each-counted,
+      )
+
+module _ (bytes : List ℕ) where
+  pub load-answered : RightLoad bytes (loadAnswer bytes)
+  unfolding loadAnswer runLines
+  load-answered = go (read-decided bytes)
+    where
+      go : Decided bytes (readAnswer bytes) → RightLoad bytes (loadAnswer bytes)
+      go (taken table file e) = rw (e, text-is bytes table file) (loaded file)
+      go (turned number line one small low e) =
+          rw e (refused (subst (RightReading bytes) e (read-answered bytes)))
+
+  pub load-only : (text : List ℕ) → RightLoad bytes text → loadAnswer bytes ≡ text
+  unfolding loadAnswer runLines
+  load-only text (refused right) = rw (read-only bytes _ right)
+  load-only text (loaded {table = table} file) =
+      rw (file-accepted bytes table file) (text-is bytes table file)
+
+  -- Never 17, 20 or 22.
+  pub load-prints : LoadPrints (loadAnswer bytes)
+  unfolding loadAnswer runLines
+  load-prints = go (read-decided bytes)
+    where
+      go : Decided bytes (readAnswer bytes) → LoadPrints (loadAnswer bytes)
+      go (taken table file e) =
+          let few : length (loadTotals table) ≡ length (file .rows) =
+          length-map (rowsOf table) _ ∙ ap length (rows-are bytes table file) in
+          rw (e, text-is bytes table file) (totals (loadTotals table)
+          (omega (arith, few, file .rows-some)) (omega (arith, few, file .rows-few)))
+      go (turned number line one small low e) = rw e (refusal number line one small)
+
+-- The first bytes of a file that is too long say so.
+pub load-first-bytes : (bytes : List ℕ)
+    → loadAnswer (take (suc mostBytes) bytes) ≡ loadAnswer bytes
+load-first-bytes bytes = go (decLe (length bytes) (suc mostBytes))
+  where
+    go : Dec (length bytes ≤ suc mostBytes)
+        → loadAnswer (take (suc mostBytes) bytes) ≡ loadAnswer bytes
+    go (yes h) = ap loadAnswer (take-all (suc mostBytes) bytes h)
+    go (no h) =
+        let long : mostBytes < length bytes = omega arith in
+        let front = length-take-le (suc mostBytes) bytes (omega arith) in
+        load-only (take (suc mostBytes) bytes) _ (refused (is2 (omega (arith, front))))
+        ∙ sym (load-only bytes _ (refused (is2 long)))
