@@ -1,7 +1,7 @@
 // Searches random tables and compares the answer, and every place of the lent lists, with those of
 // a second search (second.rt). Ticks them along random traces, and compares phases and events with
-// a second reading of the rules (watched.rt). Prints how many tables agreed, and what kinds of
-// answers there were.
+// a second reading of the rules (watched.rt). Runs them under random loads, and compares the totals
+// (loads.rt). Prints how many tables agreed, and what kinds of answers there were.
 mod again;
 mod compare;
 mod counts;
@@ -11,6 +11,7 @@ mod expected;
 mod kinds;
 mod lent;
 mod lists;
+mod loads;
 mod never;
 mod random;
 mod reached;
@@ -32,6 +33,7 @@ use lent::Lengths;
 use lent::any_lengths;
 use lent::before_search;
 use lent::capped;
+use loads::run_load;
 use random::any_table;
 use random::mixed;
 use random::one_in;
@@ -94,8 +96,8 @@ fn search_lent(seed: u64, table: Table, lengths: Lengths) -> Searched {
     Searched { found, after }
 }
 
-// Searches a table with lent lists of some lengths and follows it along a trace, compares, and
-// counts it.
+// Searches a table with lent lists of some lengths, follows it along a trace and runs it under a
+// load, compares, and counts it.
 fn attempt(
     seed: u64,
     table: Table,
@@ -115,8 +117,17 @@ fn attempt(
     let changed = is_struck(strike);
     let noted = noted(tally, changed, differs);
     let followed = follow(seed ^ 6, table, valid, tally.seen);
-    let all = reported(changed, differs) | followed.differs;
-    counted(noted, right, table.count, all, solved, followed.seen)
+    let loaded = run_load(seed ^ 7, table, valid, tally.runs);
+    let all = reported(changed, differs) | followed.differs | loaded.differs;
+    counted(
+        noted,
+        right,
+        table.count,
+        all,
+        solved,
+        followed.seen,
+        loaded.runs,
+    )
 }
 
 // Makes a table, solves it by the second search, and tries the first on it, or now and then on the

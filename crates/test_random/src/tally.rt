@@ -8,6 +8,9 @@ use crate::kinds::Kinds;
 use crate::lists::larger;
 use crate::lists::more;
 use crate::lists::one_more;
+use crate::loads::Runs;
+use crate::loads::no_runs;
+use crate::loads::print_runs;
 use crate::second::Solved;
 use crate::seen::Seen;
 use crate::seen::nothing;
@@ -42,6 +45,7 @@ pub struct Tally {
     pub longest_fall: usize,
     pub again: usize,
     pub seen: Seen,
+    pub runs: Runs,
 }
 
 // So many lines are printed of it.
@@ -79,6 +83,7 @@ pub fn none() -> Tally {
         longest_fall: 0,
         again: 0,
         seen: nothing(),
+        runs: no_runs(),
     }
 }
 
@@ -114,15 +119,16 @@ fn print_difference(bits: u32, number: usize) {
     let text: &[u8] = b"refusal #verdict #trace length #lost number #count #\
         states #predecessors #letters #lost numbers #trace #\
         the walk's lost numbers #a changed place #a watcher's refusal #\
-        phases #events #event counts #rows that never fire #differ in table #";
+        phases #events #event counts #rows that never fire #a load's refusal #totals #\
+        differ in table #";
     let mut left = bits;
-    for n in 0..17 {
+    for n in 0..19 {
         if left % 2 == 1 {
             print_word(text, n);
         }
         left = left / 2;
     }
-    print_line(text, 17, number);
+    print_line(text, 19, number);
 }
 
 // The tally with a table whose place was changed, and whether the comparison noticed it.
@@ -167,8 +173,8 @@ fn with_walk(tally: Tally, kinds: Kinds, again: bool, walked: bool) -> Tally {
     t
 }
 
-// The tally with one table more, of which `differs` says what differs. `seen` has its ticks
-// already.
+// The tally with one table more, of which `differs` says what differs. `seen` and `runs` have its
+// ticks and its run already.
 pub fn counted(
     t: Tally,
     right: Expected,
@@ -176,6 +182,7 @@ pub fn counted(
     differs: u32,
     solved: Solved,
     seen: Seen,
+    runs: Runs,
 ) -> Tally {
     let kinds = solved.kinds;
     print_difference(differs | unless(kinds.same, 10), t.tables);
@@ -198,6 +205,7 @@ pub fn counted(
     next.largest_lost = larger(t.largest_lost, right.lost);
     next.most_states = larger(t.most_states, right.count);
     next.seen = seen;
+    next.runs = runs;
     next
 }
 
@@ -252,4 +260,5 @@ pub fn print(t: Tally) {
         print_line(text, n, numbers[n]);
     }
     print_seen(t.seen);
+    print_runs(t.runs);
 }

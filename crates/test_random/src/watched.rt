@@ -116,7 +116,7 @@ fn same_events(given: [u8; MOST_ROWS], right: [u8; MOST_ROWS]) -> bool {
 }
 
 // The number of a refusal, of which the line is 0, or 0.
-fn same_number(outcome: Outcome, number: u8) -> bool {
+pub fn same_number(outcome: Outcome, number: u8) -> bool {
     match outcome {
         Outcome::Accepted => number == 0,
         Outcome::Refused(refusal) => (refusal.number == number) & (refusal.line == 0),

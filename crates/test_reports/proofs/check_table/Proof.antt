@@ -1,5 +1,5 @@
--- `check_table` is safe: only a report that fits its buffer is taken from it. Assumes nothing but
--- the contracts of the C functions in `libc`.
+-- `test_reports::check_table` is safe: only texts that fit their buffers are taken from them.
+-- Assumes nothing but the contracts of the C functions in `libc`.
 use borrow.Author.Needs.{needs}
 use mathlib.Core.Path.{sym}
 use lib.Seq.{length-take-le}
@@ -12,9 +12,17 @@ array-share-prefix-report c = search needs
 slice-aggregate-compare : tie.Need-slice-aggregate-compare
 slice-aggregate-compare c = sym (length-take-le _ _ (array-share-prefix-report (c .before)))
 
+array-share-prefix-totals : tie.Need-array-share-prefix-totals
+array-share-prefix-totals c = search needs
+
+slice-aggregate-compare-2 : tie.Need-slice-aggregate-compare-2
+slice-aggregate-compare-2 c = sym (length-take-le _ _ (array-share-prefix-totals (c .before)))
+
 pub check-table-spec : {M : Type 1} → statement M
 check-table-spec =
     tie.close (tie.spec
-    (λ c. search needs) (λ c κs. search needs) array-share-prefix-report slice-aggregate-compare
-    (λ c κs. search needs) (λ c. search needs) (λ c κs. search needs) (λ c. search needs)
+    (λ c. search needs) (λ c κs. search needs) (λ c. search needs) (λ c κs. search needs)
+    (λ c. search needs) (λ c κs. search needs) (λ c. search needs) (λ c κs. search needs)
+    array-share-prefix-report slice-aggregate-compare array-share-prefix-totals
+    slice-aggregate-compare-2 (λ c κs. search needs) (λ c. search needs) (λ c. search needs)
     (λ c. search needs))
