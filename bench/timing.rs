@@ -1,10 +1,11 @@
-//! Times `checktable` against `plain` and prints markdown. Every run is a process of its own, timed from its
-//! start to its end, with the table as standard input and a file as standard output. The programs take turns,
-//! so that what else the machine does falls on both. It stops where the two do not print the same report.
+//! Times `checktable` and `loadtable` against `plain` and prints markdown. Every run is a process of its own,
+//! timed from its start to its end, with the table as standard input and a file as standard output. The programs
+//! take turns, so that what else the machine does falls on both. It stops where the two do not print the same.
 //!
-//!     timing RUNS FOLDER CHECKTABLE PLAIN NOTHING TABLE...
+//!     timing RUNS FOLDER CHECKTABLE LOADTABLE PLAIN NOTHING TABLE... -- TABLE...
 //!
-//! FOLDER takes reports and the tables that are made here; NOTHING is a program that does nothing.
+//! FOLDER takes reports and the tables that are made here; NOTHING is a program that does nothing. The tables
+//! after `--` are run by `loadtable` alone.
 
 use std::fs::{self, File};
 use std::path::{Path, PathBuf};
@@ -22,10 +23,17 @@ const PASSES: usize = 4;
 const GOAL_RATIO: f64 = 1.0;
 const GOAL_TIME: f64 = 10.0;
 
+/// A program, with the word that it is started with, if any.
+struct Program {
+    path: PathBuf,
+    word: Option<&'static str>,
+}
+
 struct Bench {
     runs: usize,
-    checktable: PathBuf,
-    plain: PathBuf,
+    /// The product's program, `checktable` or `loadtable`, and the unverified one.
+    ours: Program,
+    plain: Program,
     /// A file of no bytes, where reports go, and where tables that are made here go.
     empty: PathBuf,
     report: PathBuf,
@@ -44,7 +52,7 @@ struct Measured {
     states: Option<usize>,
     letters: usize,
     rows: usize,
-    checktable: Times,
+    ours: Times,
     plain: Times,
 }
 
@@ -64,28 +72,28 @@ fn write(path: &Path, text: &str) {
 }
 
 /// One run: the milliseconds from start to end, and what was printed.
-fn run(program: &Path, table: &Path, report: &Path) -> (f64, String) {
+fn run(program: &Program, table: &Path, report: &Path) -> (f64, String) {
     let input = File::open(table);
     let input = input.unwrap_or_else(|error| fail(format!("cannot read {}: {error}", table.display())));
     let output = File::create(report);
     let output = output.unwrap_or_else(|error| fail(format!("cannot write {}: {error}", report.display())));
     let began = Instant::now();
-    let ended = Command::new(program).stdin(input).stdout(output).status();
+    let ended = Command::new(&program.path).args(program.word).stdin(input).stdout(output).status();
     let took = began.elapsed().as_secs_f64() * 1e3;
     match ended {
         Ok(status) if status.success() => (took, read(report)),
-        Ok(status) => fail(format!("on {} {} ended with {status}", table.display(), program.display())),
-        Err(error) => fail(format!("cannot start {}: {error}", program.display())),
+        Ok(status) => fail(format!("on {} {} ended with {status}", table.display(), program.path.display())),
+        Err(error) => fail(format!("cannot start {}: {error}", program.path.display())),
     }
 }
 
 /// Shows where two reports part, and ends.
-fn differ(table: &Path, checktable: &str, plain: &str) -> ! {
-    let same = checktable.lines().zip(plain.lines()).take_while(|(one, other)| one == other).count();
-    let line = |report: &str| report.lines().nth(same).unwrap_or("nothing more").to_string();
-    let (one, other) = (line(checktable), line(plain));
-    let place = format!("the reports differ on {}, line {}", table.display(), same + 1);
-    fail(format!("{place}: checktable prints '{one}', plain prints '{other}'"))
+fn differ(table: &Path, ours: &str, plain: &str) -> ! {
+    let same = ours.lines().zip(plain.lines()).take_while(|(one, other)| one == other).count();
+    let line = |text: &str| text.lines().nth(same).unwrap_or("nothing more").to_string();
+    let (one, other) = (line(ours), line(plain));
+    let place = format!("what is printed differs on {}, line {}", table.display(), same + 1);
+    fail(format!("{place}: the product prints '{one}', plain prints '{other}'"))
 }
 
 fn sorted(mut all: Vec<f64>) -> Vec<f64> {
@@ -96,7 +104,7 @@ fn sorted(mut all: Vec<f64>) -> Vec<f64> {
 impl Bench {
     fn measure(&self, table: &Path) -> Measured {
         let expected = run(&self.plain, table, &self.report).1;
-        let programs = [&self.checktable, &self.plain];
+        let programs = [&self.ours, &self.plain];
         let mut all = [(Vec::new(), Vec::new()), (Vec::new(), Vec::new())];
         // The first round warms up: it is compared like the others, and not counted.
         for round in 0..=self.runs {
@@ -112,7 +120,7 @@ impl Bench {
                 }
             }
         }
-        let [checktable, plain] = all.map(|(on_empty, on_table)| Times {
+        let [ours, plain] = all.map(|(on_empty, on_table)| Times {
             on_table: sorted(on_table),
             on_empty: sorted(on_empty),
         });
@@ -123,7 +131,7 @@ impl Bench {
             states: expected.lines().find_map(|line| line.strip_prefix("configurations ")?.parse().ok()),
             letters: 1 << signals,
             rows: text.lines().count().saturating_sub(2),
-            checktable,
+            ours,
             plain,
         }
     }
@@ -229,8 +237,8 @@ impl Measured {
             on_table: sorted([one.on_table, other.on_table].concat()),
             on_empty: sorted([one.on_empty, other.on_empty].concat()),
         };
-        let (checktable, plain) = (both(self.checktable, other.checktable), both(self.plain, other.plain));
-        Measured { checktable, plain, ..self }
+        let (ours, plain) = (both(self.ours, other.ours), both(self.plain, other.plain));
+        Measured { ours, plain, ..self }
     }
 
     /// The columns that say which table it is.
@@ -240,14 +248,14 @@ impl Measured {
     }
 
     fn ratio(&self) -> f64 {
-        self.checktable.best() / self.plain.best()
+        self.ours.best() / self.plain.best()
     }
 
-    /// The ratio of what is left when each program's own start is taken off, if that is enough of `checktable`'s.
+    /// The ratio of what is left when each program's own start is taken off, if that is enough of the product's.
     /// Where `plain` has less left it counts as the least, so that no ratio is made too large by it, nor lost.
     fn work_ratio(&self) -> Option<f64> {
         let plain = self.plain.work().unwrap_or(LEAST_WORK);
-        self.checktable.work().map(|checktable| checktable / plain)
+        self.ours.work().map(|ours| ours / plain)
     }
 
     fn work_ratio_shown(&self) -> String {
@@ -278,8 +286,18 @@ fn print_tables(all: &[Measured]) {
     print!("| Table | States | Letters | Rows | checktable best | median ");
     println!("| plain best | median | Ratio | Less start |\n|-|-|-|-|-|-|-|-|-|-|");
     for one in all {
-        let (ours, theirs) = (&one.checktable, &one.plain);
+        let (ours, theirs) = (&one.ours, &one.plain);
         print!("| `{}` | {} | {:.2} | {:.2} ", one.name, one.shape(), ours.best(), ours.median());
+        println!("| {:.2} | {:.2} | {:.1} | {} |", theirs.best(), theirs.median(), one.ratio(), one.work_ratio_shown());
+    }
+}
+
+fn print_loads(all: &[Measured]) {
+    print!("\nThe load, 1,000 ticks:\n\n| Table | Letters | Rows | loadtable best | median ");
+    println!("| plain best | median | Ratio | Less start |\n|-|-|-|-|-|-|-|-|-|");
+    for one in all {
+        let (ours, theirs) = (&one.ours, &one.plain);
+        print!("| `{}` | {} | {} | {:.2} | {:.2} ", one.name, one.letters, one.rows, ours.best(), ours.median());
         println!("| {:.2} | {:.2} | {:.1} | {} |", theirs.best(), theirs.median(), one.ratio(), one.work_ratio_shown());
     }
 }
@@ -288,7 +306,7 @@ fn print_growth(title: &str, all: &[Measured]) {
     print!("\n{title}\n\n| States | Letters | Rows | Moves | checktable best | ns a move ");
     println!("| plain best | ns a move | Ratio | Less start |\n|-|-|-|-|-|-|-|-|-|-|");
     for one in all {
-        let (ours, theirs) = (&one.checktable, &one.plain);
+        let (ours, theirs) = (&one.ours, &one.plain);
         let moves = one.states.unwrap_or(0) * one.letters;
         print!("| {} | {} | {:.2} | {} ", one.shape(), thousands(moves), ours.best(), ours.nanoseconds(moves));
         print!("| {:.2} | {} ", theirs.best(), theirs.nanoseconds(moves));
@@ -303,7 +321,7 @@ fn largest<'a>(all: &[&'a Measured]) -> [(f64, &'a str); 2] {
         most.unwrap_or((0.0, "none"))
     };
     let ratios = all.iter().filter_map(|one| Some((one.work_ratio()?, &one.name[..]))).collect();
-    let times = all.iter().map(|one| (one.checktable.best(), &one.name[..])).collect();
+    let times = all.iter().map(|one| (one.ours.best(), &one.name[..])).collect();
     [most(ratios), most(times)]
 }
 
@@ -311,7 +329,7 @@ fn largest<'a>(all: &[&'a Measured]) -> [(f64, &'a str); 2] {
 fn print_goal(all: &[&Measured]) {
     let [(ratio, name), (time, slowest)] = largest(all);
     let is_over = |one: &Measured| {
-        one.checktable.best() > GOAL_TIME || one.work_ratio().is_some_and(|ratio| ratio > GOAL_RATIO)
+        one.ours.best() > GOAL_TIME || one.work_ratio().is_some_and(|ratio| ratio > GOAL_RATIO)
     };
     let over: Vec<&str> = all.iter().filter(|one| is_over(one)).map(|one| &one.name[..]).collect();
     let met = if over.is_empty() { "met".into() } else { format!("not met by {}", over.join("; ")) };
@@ -321,39 +339,45 @@ fn print_goal(all: &[&Measured]) {
 
 fn main() {
     let words: Vec<String> = std::env::args().skip(1).collect();
-    let [runs, folder, checktable, plain, nothing, tables @ ..] = &words[..] else {
-        fail("usage: timing RUNS FOLDER CHECKTABLE PLAIN NOTHING TABLE...".into());
+    let [runs, folder, checktable, loadtable, plain, nothing, tables @ ..] = &words[..] else {
+        fail("usage: timing RUNS FOLDER CHECKTABLE LOADTABLE PLAIN NOTHING TABLE... -- TABLE...".into());
     };
     let runs = runs.parse().ok().filter(|&runs| runs > 0);
     let runs = runs.unwrap_or_else(|| fail("RUNS is a number from 1 on".into()));
+    let mut parts = tables.split(|word| word == "--");
+    let (tables, loads) = (parts.next().unwrap_or_default(), parts.next().unwrap_or_default());
     let folder = Path::new(folder);
-    let bench = Bench {
+    let program = |path: &String, word| Program { path: path.into(), word };
+    let beside = |ours: &String, word| Bench {
         runs,
-        checktable: checktable.into(),
-        plain: plain.into(),
+        ours: program(ours, None),
+        plain: program(plain, word),
         empty: folder.join("empty.pnp"),
         report: folder.join("report"),
         made: folder.join("made.pnp"),
     };
+    let (bench, load) = (beside(checktable, None), beside(loadtable, Some("load")));
     write(&bench.empty, "");
     let pass = || -> Vec<Vec<Measured>> {
         let start = vec![bench.measure(&bench.empty)];
         let growth = [bench.by_states(), bench.by_doomed(), bench.by_letters(), bench.by_apart(), bench.by_rows()];
         let tables = tables.iter().map(|table| bench.measure(table.as_ref())).collect();
-        [start, tables].into_iter().chain(growth).collect()
+        let loads = loads.iter().map(|table| load.measure(table.as_ref())).collect();
+        [start, loads, tables].into_iter().chain(growth).collect()
     };
     let mut all = pass();
     for _ in 1..PASSES {
         let more = all.into_iter().zip(pass());
         all = more.map(|(one, other)| one.into_iter().zip(other).map(|(a, b)| a.with(b)).collect()).collect();
     }
-    let [start, measured, growth @ ..] = &all[..] else { return };
+    let [start, loads, measured, growth @ ..] = &all[..] else { return };
 
     println!("Milliseconds, with the start of the process; {} runs of each program on each table.\n", PASSES * runs);
     println!("| Start alone | Best | Median |\n|-|-|-|");
-    let bare = sorted((0..runs).map(|_| run(nothing.as_ref(), &bench.empty, &bench.report).0).collect());
+    let nothing = program(nothing, None);
+    let bare = sorted((0..runs).map(|_| run(&nothing, &bench.empty, &bench.report).0).collect());
     println!("| a program that does nothing | {:.2} | {:.2} |", bare[0], bare[runs / 2]);
-    for (name, times) in [("checktable", &start[0].checktable), ("plain", &start[0].plain)] {
+    for (name, times) in [("checktable", &start[0].ours), ("plain", &start[0].plain)] {
         println!("| `{name}` on a file of no bytes | {:.2} | {:.2} |", times.best(), times.median());
     }
     println!();
@@ -368,6 +392,7 @@ fn main() {
     for (title, all) in titles.iter().zip(growth) {
         print_growth(title, all);
     }
+    print_loads(loads);
     let all: Vec<&Measured> = measured.iter().chain(growth.iter().flatten()).collect();
     print_goal(&all);
 }
