@@ -1,7 +1,7 @@
 -- What is promised of the burn-in, each with its proof. Assumes nothing.
 use Prim.Native.Nat.{ℕ, suc, _+_, _<_, _≤_}
 use mathlib.Core.Bool.{true, false}
-use mathlib.Core.List.{List, map}
+use mathlib.Core.List.{List, [], _∷_, _++_, map}
 use mathlib.Core.Logic.{_↔_}
 use mathlib.Core.Path.{_≡_}
 use lib.ListN.{length, getD, take, replicate}
@@ -21,12 +21,13 @@ use Rattle.watcher.specs.Answer.{tickAnswer}
 use Rattle.load.specs.declared.Ran.{Ran}
 use Rattle.load.specs.declared.Totals.{Totals}
 use Rattle.load.specs.Load.{loadOf, totalsOf, noTotals, sumsOf, longestRun, runAnswer}
-use Rattle.load.specs.further.Balance.{Balanced, SumsBalanced, Open}
+use Rattle.load.specs.further.Balance.{Balanced, SumsBalanced, OneMore, Open}
 use Rattle.load.specs.further.Numbers.{IsLoad}
 use Rattle.load.proofs.Letters as Letters
 use Rattle.load.proofs.RowTotals as RowTotals
 use Rattle.load.proofs.RowTotals.{AtMost}
 use Rattle.load.proofs.Runs as Runs
+use Rattle.load.proofs.Summing as Summing
 use Rattle.report.specs.Totals.{runBytes}
 use Rattle.report.proofs.TotalsText as Text
 use Rattle.report.proofs.TotalsText.{SameTotals}
@@ -68,6 +69,14 @@ trace-balance = RowTotals.totals-balance
 pub trace-sums-balance : (s : ℕ) (rows : List Row) (w : List ℕ)
     → SumsBalanced (sumsOf (map (λ row. totalsOf s row w) rows))
 trace-sums-balance = Runs.rows-balance
+
+-- "And the sums": those of no row are zeros, and a row more adds its totals.
+pub sums-none : sumsOf [] ≡ record { realised = 0; completed = 0; breaks = 0; pending = 0 }
+sums-none = Summing.sums-none
+
+pub sums-more : (all : List Totals) (t : Totals)
+    → OneMore (sumsOf all) t (sumsOf (all ++ (t ∷ [])))
+sums-more = Summing.sums-more
 
 -- A run of any table value, from any number, over any ticks.
 module _ (table : Table) (start ticks : ℕ) where

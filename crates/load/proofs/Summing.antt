@@ -10,7 +10,7 @@ use Rattle.table.specs.Limits.{mostRows}
 use Rattle.load.specs.declared.Sums.{Sums}
 use Rattle.load.specs.declared.Totals.{Totals}
 use Rattle.load.specs.Load.{noTotals, sumOf, sumsOf}
-use Rattle.load.specs.further.Balance.{Balanced, SumsBalanced}
+use Rattle.load.specs.further.Balance.{Balanced, SumsBalanced, OneMore}
 use Rattle.load.specs.inner.Tally.{SumRoom, withRow, Grown}
 
 sum-snoc : (part : Totals → ℕ) (all : List Totals) (t : Totals)
@@ -28,6 +28,19 @@ sums-snoc all t = λ i. record {
   pending = sum-snoc (λ u. u .pending) all t i;
 }
 
+pub sums-more : (all : List Totals) (t : Totals) → OneMore (sumsOf all) t (sumsOf (all ++ (t ∷ [])))
+sums-more all t =
+    rw (sums-snoc all t)
+    (record { realised = refl; completed = refl; breaks = refl; pending = refl })
+
+-- And those of no row.
+abbrev pub noSums : Sums
+noSums = record { realised = 0; completed = 0; breaks = 0; pending = 0 }
+
+pub sums-none : sumsOf [] ≡ noSums
+unfolding sumsOf sumOf
+sums-none = refl
+
 -- The sums of the first i rows, of so many that are asked for: none is too large.
 pub record Summing (rows : ℕ) (all : List Totals) (sums : Sums) (i : ℕ) : Type 0 where
   pub low : i ≤ rows
@@ -38,11 +51,10 @@ pub record Summing (rows : ℕ) (all : List Totals) (sums : Sums) (i : ℕ) : Ty
   pub pending : sums .pending ≤ i * 65535
 
 pub summing-none : (rows : ℕ) (all : List Totals)
-    → Summing rows all (record { realised = 0; completed = 0; breaks = 0; pending = 0 }) 0
-unfolding sumsOf sumOf
+    → Summing rows all noSums 0
 summing-none rows all = record {
   low = omega arith;
-  are = refl;
+  are = sym sums-none;
   realised = omega arith;
   completed = omega arith;
   breaks = omega arith;

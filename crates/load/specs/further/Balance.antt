@@ -13,6 +13,13 @@ Balanced t = t .realised ≡ t .completed + t .breaks + t .pending
 abbrev pub SumsBalanced : Sums → Type 0
 SumsBalanced t = t .realised ≡ t .completed + t .breaks + t .pending
 
+-- The sums with one row more.
+pub record OneMore (sums : Sums) (t : Totals) (after : Sums) : Type 0 where
+  pub realised : after .realised ≡ sums .realised + t .realised
+  pub completed : after .completed ≡ sums .completed + t .completed
+  pub breaks : after .breaks ≡ sums .breaks + t .breaks
+  pub pending : after .pending ≡ sums .pending + t .pending
+
 -- "Open means in delay or action."
 pub data Open : Phase → Type 0 where
   delay : (d : ℕ) → Open (Delay d)
