@@ -2,13 +2,12 @@
 use Prim.Native.Nat.{ℕ, suc, _<_, _≤_}
 use native.Mathlib.Decide.{decLe}
 use native.Mathlib.Omega.{arith}
-use mathlib.Core.List.{List, [], _∷_, _++_, map}
+use mathlib.Core.List.{List, [], _∷_, _++_}
 use mathlib.Core.Path.{_≡_, sym, ap, subst, _∙_}
 use lib.ListN.{length, take, length-map}
 use lib.Seq.{length-take-le, take-all, take-at, take-append-seam}
-use Rattle.table.specs.Limits.{mostBytes, mostRows}
+use Rattle.table.specs.Limits.{mostBytes}
 use Rattle.table.specs.Valid.{rowsOf}
-use Rattle.table.specs.declared.Row.{Row}
 use Rattle.table.specs.declared.Table.{Table}
 use Rattle.text.specs.Lines.{ended}
 use Rattle.reader.specs.Grammar.{IsFile}
@@ -18,9 +17,7 @@ use Rattle.reader.proofs.Accepted.{Decided, taken, turned, read-decided, file-a
 use Rattle.reader.proofs.Valid.{file-valid}
 use Rattle.reader.proofs.Found.{read-answered}
 use Rattle.reader.proofs.Only.{read-only}
-use Rattle.load.specs.declared.Ran.{Ran}
-use Rattle.load.specs.declared.Totals.{Totals}
-use Rattle.load.specs.Load.{loadOf, totalsOf, totalsOver, sumsOf, runAnswer}
+use Rattle.load.specs.Load.{totalsOver, sumsOf, runAnswer}
 use Rattle.load.proofs.Runs.{run-taken}
 use Rattle.report.specs.Totals.{totalsLines, sumsLine, runLines, runBytes}
 use Rattle.checker.specs.FileLoad.{loadStart, loadTicks}

@@ -3,6 +3,7 @@
 -- `native.Mathlib.Nat` (numbers).
 pub mod Lists
 pub mod Filling
+pub mod Padding
 pub mod Bits
 pub mod Sets
 pub mod Lowest

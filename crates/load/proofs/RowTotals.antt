@@ -1,14 +1,13 @@
 -- A row's totals over a trace: tick by tick, how large they are, what they come to; and those of
 -- all rows. Assumes nothing.
-use Prim.Native.Nat.{ℕ, zero, suc, _+_, _-_, _<_, _≤_}
+use Prim.Native.Nat.{ℕ, _+_, _<_, _≤_}
 use native.Mathlib.Omega.{arith}
 use mathlib.Core.Bool.{Bool, true, false, _&&_, not}
-use mathlib.Core.List.{List, [], _∷_, _++_, map}
-use mathlib.Core.Path.{_≡_, refl, sym, ap, _∙_}
-use lib.ListN.{length, getD, replicate, length-append, length-map, length-replicate}
-use lib.ListN.{List·getD-append}
-use lib.Seq.{getD-append-add}
+use mathlib.Core.List.{List, [], _∷_, _++_}
+use mathlib.Core.Path.{_≡_, refl}
+use lib.ListN.{length, getD}
 use Rattle.letters.specs.Letter.{bit}
+use Rattle.letters.proofs.Padding.{padded-length, padded-at, padded-beyond}
 use Rattle.table.specs.Limits.{mostRows}
 use Rattle.table.specs.Row.{noRow}
 use Rattle.table.specs.declared.Row.{Row}
@@ -18,11 +17,11 @@ use Rattle.step.specs.declared.Phase.{Phase}
 use Rattle.step.specs.declared.Phase.the-variants.{Waiting}
 use Rattle.step.specs.Phase.{isBroken}
 use Rattle.step.specs.Step.{stepRow}
-use Rattle.step.specs.Events.{noEvents, rowEvents, tickEvents, traceEvents, Event, happens}
+use Rattle.step.specs.Events.{rowEvents, tickEvents, traceEvents, Event, happens}
 use Rattle.step.specs.Events.{timesOf, isOpen}
 use Rattle.step.specs.Tick.{tick, rowSystem}
 use Rattle.step.proofs.Rows.{step-broken, tick-length, tick-at}
-use Rattle.step.proofs.RowEvents.{broken-exactly, events-at, events-beyond, trace-events, times-few}
+use Rattle.step.proofs.RowEvents.{broken-exactly, events-at, trace-events, times-few}
 use Rattle.step.proofs.RowEvents.{trace-sums}
 use Rattle.step.proofs.Systems.{run-at}
 use Rattle.load.specs.declared.Totals.{Totals}
@@ -122,65 +121,22 @@ times-alone event rows phases [] i h k = refl
 times-alone event rows phases (l ∷ w) i h k =
     let rest = times-alone event rows (tick rows l phases) w i h
     (rw (tick-length rows l phases) k) in
-    rw (events-at rows l phases i h k)
-    (ap (λ (n : ℕ). bit (happens (rowEvents (getD rows i noRow) l (getD phases i Waiting)) event) + n)
-    (rw (tick-at rows l phases i h k) at rest))
-
--- And what is no row has nothing happen to it.
-pub times-beyond : (event : Event) (rows : List Row) (phases : List Phase) (w : List ℕ) (i : ℕ)
-    → length rows ≤ i → timesOf event i (traceEvents rows phases w) ≡ 0
-unfolding timesOf traceEvents
-times-beyond event rows phases [] i h = refl
-times-beyond event rows phases (l ∷ w) i h =
-    rw (events-beyond rows l phases i h, times-beyond event rows (tick rows l phases) w i h)
-    (no-event event)
-  where
-    no-event : (event : Event) → bit (happens noEvents event) + 0 ≡ 0
-    no-event Event.started = refl
-    no-event Event.realised = refl
-    no-event Event.aborted = refl
-    no-event Event.acting = refl
-    no-event Event.completed = refl
-    no-event Event.broken = refl
+    rw (events-at rows l phases i h k) (omega (arith, rw (tick-at rows l phases i h k) at rest))
 
 -- The totals of all rows, place by place.
-map-at : {A B : Type 0} (f : A → B) (xs : List A) (i : ℕ) (a : A) (b : B) → i < length xs
-    → getD (map f xs) i b ≡ f (getD xs i a)
-map-at f [] i a b h = absurd (omega arith)
-map-at f (x ∷ xs) zero a b h = refl
-map-at f (x ∷ xs) (suc i) a b h = map-at f xs i a b (omega arith)
-
-pub zeros-at : (n k : ℕ) → getD (replicate n noTotals) k noTotals ≡ noTotals
-zeros-at zero k = refl
-zeros-at (suc n) zero = refl
-zeros-at (suc n) (suc k) = zeros-at n k
-
 module _ (s : ℕ) (rows : List Row) (w : List ℕ) where
-  abbrev each : List Totals
-  each = map (λ row. totalsOf s row w) rows
-
-  each-length : length each ≡ length rows
-  each-length = length-map rows (λ row. totalsOf s row w)
+  abbrev each : Row → Totals
+  each row = totalsOf s row w
 
   pub over-length : length rows ≤ mostRows → length (totalsOver s rows w) ≡ mostRows
   unfolding totalsOver
-  over-length few =
-      length-append each (replicate (mostRows - length rows) noTotals)
-      ∙ rw (each-length, length-replicate {A = Totals} (mostRows - length rows) noTotals)
-      (omega arith)
+  over-length = padded-length each noTotals mostRows rows
 
   pub over-at : (i : ℕ) → i < length rows
       → getD (totalsOver s rows w) i noTotals ≡ totalsOf s (getD rows i noRow) w
   unfolding totalsOver
-  over-at i used =
-      List·getD-append each (replicate (mostRows - length rows) noTotals) noTotals i
-      (rw each-length used)
-      ∙ map-at (λ row. totalsOf s row w) rows i noRow noTotals used
+  over-at = padded-at each noTotals mostRows rows noRow
 
   pub over-beyond : (i : ℕ) → length rows ≤ i → getD (totalsOver s rows w) i noTotals ≡ noTotals
   unfolding totalsOver
-  over-beyond i unused =
-      ap (λ (k : ℕ). getD (each ++ replicate (mostRows - length rows) noTotals) k noTotals)
-      (let k : i ≡ length each + (i - length rows) = omega (arith, each-length) in k)
-      ∙ getD-append-add each (replicate (mostRows - length rows) noTotals) (i - length rows) noTotals
-      ∙ zeros-at (mostRows - length rows) (i - length rows)
+  over-beyond = padded-beyond each noTotals mostRows rows

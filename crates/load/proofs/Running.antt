@@ -5,12 +5,12 @@ use native.Mathlib.Numerals.{add-one}
 use native.Mathlib.Omega.{arith}
 use mathlib.Core.Bool.{Bool, true, false, cond}
 use mathlib.Core.List.{List, [], _∷_, _++_}
-use mathlib.Core.Path.{_≡_, refl, sym, ap, ap₂, _∙_}
+use mathlib.Core.Path.{_≡_, refl, sym, ap, _∙_}
 use borrow.Author.Tests.{lt-ltb, leb-true, le-leb}
 use lib.Dec.{leb}
 use lib.ListN.{length, getD, replicate, length-replicate, getD-replicate}
 use lib.Seq.{ext-getD}
-use Rattle.letters.specs.Letter.{letters, letterValid}
+use Rattle.letters.specs.Letter.{letters}
 use Rattle.table.specs.Limits.{mostRows}
 use Rattle.table.specs.Refusal.{refusedAt}
 use Rattle.table.specs.Row.{noRow}
@@ -22,11 +22,9 @@ use Rattle.table.proofs.Laws.{tableValid-rows, rowsValid-count}
 use Rattle.traces.specs.System.{System}
 use Rattle.traces.specs.Trace.{run}
 use Rattle.traces.proofs.Runs.{run-snoc}
-use Rattle.step.specs.declared.Events.{Events}
 use Rattle.step.specs.declared.Phase.{Phase}
 use Rattle.step.specs.declared.Phase.the-variants.{Waiting}
-use Rattle.step.specs.Events.{noEvents, rowEvents, tickEvents, isOpen}
-use Rattle.step.specs.Step.{stepRow}
+use Rattle.step.specs.Events.{noEvents, tickEvents, isOpen}
 use Rattle.step.specs.Tick.{tick as tickRows, tableSystem}
 use Rattle.step.specs.Valid.{phasesValid}
 use Rattle.step.proofs.RowEvents.{events-at, events-beyond}
@@ -34,14 +32,13 @@ use Rattle.step.proofs.Rows.{tick-at, tick-beyond}
 use Rattle.step.proofs.Systems.{run-at, run-beyond, run-length, run-valid}
 use Rattle.watcher.specs.declared.Ticked.{Ticked}
 use Rattle.watcher.specs.declared.Watch.{Watch}
-use Rattle.watcher.specs.Watch.{phasesOf, watchOf, startWatch}
+use Rattle.watcher.specs.Watch.{phasesOf, startWatch}
 use Rattle.watcher.specs.Answer.{answered, movedOn}
 use Rattle.watcher.specs.inner.Tables.{tableTick}
 use Rattle.watcher.proofs.Records.{phases-watch, phase-at}
 use Rattle.watcher.proofs.Starts.{start-valid, start-phase, refused-is}
-use Rattle.load.specs.declared.Ran.{Ran}
 use Rattle.load.specs.declared.Totals.{Totals}
-use Rattle.load.specs.Load.{nextNumber, numbersFrom, letterOf, loadOf, totalsOf, noTotals}
+use Rattle.load.specs.Load.{nextNumber, numbersFrom, letterOf, loadOf, noTotals}
 use Rattle.load.specs.Load.{totalsOver}
 use Rattle.load.specs.Load.{longestRun, runNumber, notRun, runAnswer}
 use Rattle.load.specs.inner.Tally.{Room, AllRoom, withTick, tickedAt, AllTicked}

@@ -10,6 +10,7 @@ use borrow.Author.Tests.{le-leb, leb-true, leb-false}
 use lib.Dec.{leb}
 use lib.ListN.{length, getD, take, replicate, length-replicate}
 use lib.Seq.{ext-getD}
+use Rattle.letters.proofs.Padding.{same-at}
 use Rattle.table.specs.Limits.{mostRows}
 use Rattle.table.specs.Refusal.{refusedAt}
 use Rattle.table.specs.Row.{noRow}
@@ -28,7 +29,7 @@ use Rattle.load.specs.Load.{sumsOf, longestRun, runNumber, notRun, runAn
 use Rattle.load.specs.further.Balance.{Balanced, SumsBalanced}
 use Rattle.load.proofs.Letters.{load-length}
 use Rattle.load.proofs.RowTotals.{AtMost, totals-none, totals-most, totals-balance}
-use Rattle.load.proofs.RowTotals.{over-length, over-at, over-beyond, zeros-at}
+use Rattle.load.proofs.RowTotals.{over-length, over-at, over-beyond}
 use Rattle.load.proofs.Running.{lets-by}
 use Rattle.load.proofs.Summing.{sums-balance}
 
@@ -112,7 +113,7 @@ module _ (table : Table) (start ticks : ℕ) where
 
       go : (n : ℕ) → P (getD (answered n done refused .totals) i noTotals)
       go zero = place (decLt i (length rows))
-      go (suc n) = rw (zeros-at mostRows i) none
+      go (suc n) = rw (same-at noTotals mostRows i) none
 
   pub run-length : length (runAnswer table start ticks .totals) ≡ mostRows
   unfolding runAnswer answered
@@ -162,7 +163,7 @@ none-run table start =
     (run-length table start 0 ∙ sym (length-replicate {A = Totals} mostRows noTotals))
     (λ i low. by-place table start 0 (λ t. t ≡ noTotals) i refl
     (λ used. totals-none (table .signals) (getD (rowsOf table) i noRow))
-    ∙ sym (zeros-at mostRows i))
+    ∙ sym (same-at noTotals mostRows i))
 
 -- The sums of any rows over any trace are balanced.
 pub rows-balance : (s : ℕ) (rows : List Row) (w : List ℕ)

@@ -14,7 +14,8 @@ ghost use mathlib.Core.Path.{_≡_};
 ghost use lib.Dec.{leb};
 ghost use lib.ListN.{take};
 ghost use Rattle.table.specs.declared.Outcome.the-variants.{Refused};
-ghost use Rattle.load.specs.Load.{nextNumber, letterOf, sumsOf, longestRun, notRun, runAnswer};
+ghost use Rattle.load.specs.Load.{nextNumber, letterOf, sumsOf, longestRun, notRun};
+ghost use Rattle.load.specs.Load.{runAnswer};
 
 // "A run has at most 65,535 ticks."
 pub const LONGEST_RUN: u32 = 65535;
@@ -112,8 +113,8 @@ fn number_of(valid: bool, ticks: u32) -> u8
     0
 }
 
-// So many ticks of a load that starts from a number, with all rows waiting. Refused with 17, or with
-// 22 if there are too many ticks.
+// So many ticks of a load that starts from a number, with all rows waiting. Refused with 17, or
+// with 22 if there are too many ticks.
 pub fn run(table: Table, start: u32, ticks: u32) -> Ran
     ensures { λ r. ⌜ r ≡ runAnswer table start ticks ⌝ }
 {

@@ -6,6 +6,7 @@ use mathlib.Core.List.{List, [], _∷_}
 use mathlib.Core.Path.{_≡_, refl, ap, _∙_}
 use lib.ListN.{length, getD, replicate}
 use Rattle.letters.specs.Lists.{every}
+use Rattle.letters.proofs.Padding.{same-at}
 use Rattle.table.specs.Limits.{mostRows}
 use Rattle.table.specs.declared.Row.{Row}
 use Rattle.step.specs.declared.Phase.{Phase}
@@ -33,15 +34,10 @@ pub start-valid : (rows : List Row) → length rows ≤ mostRows
 start-valid rows few = rw phases-watch (rows-valid rows mostRows few)
 
 -- and each row of it waits.
-waits-at : (n i : ℕ) → getD (replicate n Waiting) i Waiting ≡ Waiting
-waits-at zero i = refl
-waits-at (suc n) zero = refl
-waits-at (suc n) (suc i) = waits-at n i
-
 pub start-phase : (i : ℕ) → getD (phasesOf startWatch) i Waiting ≡ Waiting
 start-phase i =
     ap (λ (l : List Phase). getD l i Waiting) (phases-watch (replicate mostRows Waiting))
-    ∙ waits-at mostRows i
+    ∙ same-at Waiting mostRows i
 
 -- The number and the line of an answer, and what a refusal leaves.
 module _ {A : Type 0} (done : A) (refused : ℕ → A) where

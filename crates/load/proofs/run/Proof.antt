@@ -3,7 +3,6 @@
 -- left. Assumes nothing.
 use Prim.Native.Nat.{_-_}
 use borrow.Author.Needs.{needs}
-use native.Mathlib.Omega.{arith}
 use mathlib.Core.Bool.{Bool, cond}
 use mathlib.Core.Path.{_≡_, ap, _∙_}
 use lib.Dec.{leb}
@@ -22,8 +21,8 @@ abbrev μ-loop : tie.MeasureT-loop
     ticks - tick
 
 -- The number of the refusal, or 0.
-number-is : (c : tie.After-number-of Inv-loop μ-loop)
-    → c .number-of .result ≡ runNumber (c .before .before .args .table) (c .before .before .args .ticks)
+number-is : (c : tie.After-number-of Inv-loop μ-loop) → let args = c .before .before .args in
+    c .number-of .result ≡ runNumber (args .table) (args .ticks)
 number-is c = c .number-of .ensures
     ∙ ap (λ (b : Bool). cond b (cond (leb (c .before .before .args .ticks) longestRun) 0 22) 17)
     (c .before .valid .ensures)

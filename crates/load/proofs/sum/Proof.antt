@@ -1,6 +1,6 @@
 -- `load::sum` meets its contract. The invariant: the sums are those of the first i rows, and none
 -- is larger than so many totals can make it. The measure: how many rows are left. Assumes nothing.
-use Prim.Native.Nat.{_-_, _≤_}
+use Prim.Native.Nat.{_-_}
 use borrow.Author.Needs.{needs}
 use native.Mathlib.Omega.{arith}
 use mathlib.Core.Path.{_≡_}
