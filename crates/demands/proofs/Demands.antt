@@ -3,13 +3,13 @@
 -- a definition of the specs; here stands what follows of those definitions. More is promised, by
 -- subject, in `Reading`, `Watching`, `Happening`, `Searching`, `Reporting`, `Loading` and `Cases`.
 -- Assumes nothing.
-use Prim.Native.Nat.{ℕ, suc, _<_, _≤_}
+use Prim.Native.Nat.{ℕ, suc, _+_, _<_, _≤_}
 use mathlib.Core.Bool.{true}
 use mathlib.Core.List.{List}
 use mathlib.Core.Logic.{_⊎_, _↔_}
 use mathlib.Core.Path.{_≡_, ap, _∙_}
 use lib.ListN.{length, getD, take}
-use Rattle.letters.specs.Letter.{letters, bitAt}
+use Rattle.letters.specs.Letter.{letters, bitAt, bit}
 use Rattle.table.specs.Limits.{mostBytes, mostRows}
 use Rattle.table.specs.Row.{noRow}
 use Rattle.table.specs.Valid.{tableValid, rowsValid, rowsOf}
@@ -20,7 +20,7 @@ use Rattle.traces.specs.Count.{ReachedMany}
 use Rattle.step.specs.declared.Phase.the-variants.{Waiting}
 use Rattle.step.specs.Tick.{rowSystem}
 use Rattle.step.specs.Fires.{Fires}
-use Rattle.step.specs.Events.{noEvents, rowEvents, Event, timesOf}
+use Rattle.step.specs.Events.{noEvents, rowEvents, Event, timesOf, isOpen}
 use Rattle.step.specs.Valid.{phasesValid}
 use Rattle.watcher.specs.declared.Watch.{Watch}
 use Rattle.watcher.specs.Watch.{phasesOf, startWatch, countOf, noCounts}
@@ -34,7 +34,6 @@ use Rattle.reader.specs.declared.Reading.{Reading as FileReading}
 use Rattle.reader.proofs.Found as ReadingFound
 use Rattle.reader.proofs.Only as ReadingOnly
 use Rattle.load.specs.Load.{loadOf, totalsOf, noTotals, longestRun, runAnswer}
-use Rattle.load.specs.further.Balance.{Balanced, Open}
 use Rattle.verdict.specs.declared.RowLists.{RowLists}
 use Rattle.verdict.specs.Found.{Verdict, valuesOf, soundFound, trappedFound}
 use Rattle.search.specs.Lent.{Lent, Searched, roomOf, systemOf, traced}
@@ -247,12 +246,13 @@ module _ (table : Table) (start ticks : ℕ) (passes : tableValid table ≡ true
       × (totals .breaks ≡ timesOf Event.broken i events)
   run-counts = Loading.run-counts table start ticks passes few i used
 
-  pub run-open : let totals = getD (runAnswer table start ticks .totals) i noTotals in
-      (totals .pending ≡ 1)
-      ↔ Open (getD (phasesOf (recordAfter (table .signals) (rowsOf table) startWatch
-      (loadOf (table .signals) start ticks))) i Waiting)
-  run-open = Loading.run-open table start ticks passes few i used
+  pub run-pending : let totals = getD (runAnswer table start ticks .totals) i noTotals in
+      totals .pending
+      ≡ bit (isOpen (getD (phasesOf (recordAfter (table .signals) (rowsOf table) startWatch
+      (loadOf (table .signals) start ticks))) i Waiting))
+  run-pending = Loading.run-pending table start ticks passes few i used
 
 -- "For each row realised equals completed plus broken plus open, for any load": for any trace.
-pub trace-balance : (s : ℕ) (row : Row) (w : List ℕ) → Balanced (totalsOf s row w)
+pub trace-balance : (s : ℕ) (row : Row) (w : List ℕ) → let totals = totalsOf s row w in
+    totals .realised ≡ totals .completed + totals .breaks + totals .pending
 trace-balance = Loading.trace-balance

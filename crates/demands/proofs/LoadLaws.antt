@@ -102,9 +102,12 @@ module _ (table : Table) (start ticks : ℕ) (passes : tableValid table ≡ true
       times-called Event.broken,
     )
 
-    pub run-open : (totalsAt .pending ≡ 1) ↔ Open last
+    pub run-pending : totalsAt .pending ≡ bit (isOpen last)
     unfolding totalsOf
-    run-open = rw (total-is, last-is) (one-open last, open-one)
+    run-pending = rw (total-is, last-is)
+
+    pub run-open : (totalsAt .pending ≡ 1) ↔ Open last
+    run-open = rw run-pending (one-open last, open-one)
 
     pub run-breaks : totalsAt .breaks ≡ bit (isBroken last)
     run-breaks = rw (total-is, ← last-is) (breaks-once s row w)

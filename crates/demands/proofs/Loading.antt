@@ -14,18 +14,17 @@ use Rattle.table.specs.declared.Row.{Row}
 use Rattle.table.specs.declared.Table.{Table}
 use Rattle.traces.specs.Trace.{AllBelow}
 use Rattle.step.specs.declared.Phase.the-variants.{Waiting}
-use Rattle.step.specs.Events.{Event, timesOf}
+use Rattle.step.specs.Events.{Event, timesOf, isOpen}
 use Rattle.step.specs.Phase.{isBroken}
 use Rattle.watcher.specs.Watch.{phasesOf, startWatch}
 use Rattle.watcher.specs.Answer.{tickAnswer}
 use Rattle.load.specs.declared.Ran.{Ran}
 use Rattle.load.specs.declared.Totals.{Totals}
 use Rattle.load.specs.Load.{loadOf, totalsOf, noTotals, sumsOf, longestRun, runAnswer}
-use Rattle.load.specs.further.Balance.{Balanced, SumsBalanced, OneMore, Open}
+use Rattle.load.specs.further.Balance.{Balanced, SumsBalanced, OneMore, AtMost, Open}
 use Rattle.load.specs.further.Numbers.{IsLoad}
 use Rattle.load.proofs.Letters as Letters
 use Rattle.load.proofs.RowTotals as RowTotals
-use Rattle.load.proofs.RowTotals.{AtMost}
 use Rattle.load.proofs.Runs as Runs
 use Rattle.load.proofs.Summing as Summing
 use Rattle.report.specs.Totals.{runBytes}
@@ -137,6 +136,11 @@ module _ (table : Table) (start ticks : ℕ) where
 
     -- "Open means in delay or action", after the last tick; and "a break is the tick in which the
     -- row becomes broken", so there is one exactly if the row is broken then.
+    pub run-pending : totalsAt i .pending
+        ≡ bit (isOpen (getD (phasesOf (recordAfter (table .signals) (rowsOf table) startWatch
+        (loadOf (table .signals) start ticks))) i Waiting))
+    run-pending = Laws.run-pending table start ticks passes few i used
+
     pub run-open : (totalsAt i .pending ≡ 1)
         ↔ Open (getD (phasesOf (recordAfter (table .signals) (rowsOf table) startWatch
         (loadOf (table .signals) start ticks))) i Waiting)

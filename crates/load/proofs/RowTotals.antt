@@ -26,7 +26,7 @@ use Rattle.step.proofs.RowEvents.{trace-sums}
 use Rattle.step.proofs.Systems.{run-at}
 use Rattle.load.specs.declared.Totals.{Totals}
 use Rattle.load.specs.Load.{timesIn, totalsOf, noTotals, totalsOver}
-use Rattle.load.specs.further.Balance.{Balanced}
+use Rattle.load.specs.further.Balance.{Balanced, AtMost}
 use Rattle.load.specs.inner.Tally.{withTick}
 
 -- What happens to a row by itself at one tick more.
@@ -38,13 +38,6 @@ unfolding timesOf traceEvents tickEvents tick run
 times-snoc event s row phase [] l = omega arith
 times-snoc event s row phase (k ∷ w) l =
     let rest = times-snoc event s row (stepRow row k phase) w l in omega (arith, rest)
-
--- Totals of at most so many ticks.
-pub record AtMost (n : ℕ) (totals : Totals) : Type 0 where
-  pub realised : totals .realised ≤ n
-  pub completed : totals .completed ≤ n
-  pub breaks : totals .breaks ≤ n
-  pub pending : totals .pending ≤ 1
 
 module _ (s : ℕ) (row : Row) where
   pub totals-none : totalsOf s row [] ≡ noTotals

@@ -26,9 +26,9 @@ use Rattle.load.specs.declared.Ran.{Ran}
 use Rattle.load.specs.declared.Totals.{Totals}
 use Rattle.load.specs.Load.{numbersFrom, loadOf, totalsOf, noTotals, totalsOver, sumOf}
 use Rattle.load.specs.Load.{sumsOf, longestRun, runNumber, notRun, runAnswer}
-use Rattle.load.specs.further.Balance.{Balanced, SumsBalanced}
+use Rattle.load.specs.further.Balance.{Balanced, SumsBalanced, AtMost}
 use Rattle.load.proofs.Letters.{load-length}
-use Rattle.load.proofs.RowTotals.{AtMost, totals-none, totals-most, totals-balance}
+use Rattle.load.proofs.RowTotals.{totals-none, totals-most, totals-balance}
 use Rattle.load.proofs.RowTotals.{over-length, over-at, over-beyond}
 use Rattle.load.proofs.Running.{lets-by}
 use Rattle.load.proofs.Summing.{sums-balance}
