@@ -1,13 +1,15 @@
 -- A row's totals over a trace: tick by tick, how large they are, what they come to; and those of
 -- all rows. Assumes nothing.
 use Prim.Native.Nat.{ℕ, _+_, _<_, _≤_}
+use native.Mathlib.Decide.{decLt}
 use native.Mathlib.Omega.{arith}
 use mathlib.Core.Bool.{Bool, true, false, _&&_, not}
 use mathlib.Core.List.{List, [], _∷_, _++_}
-use mathlib.Core.Path.{_≡_, refl}
-use lib.ListN.{length, getD}
+use mathlib.Core.Path.{_≡_, refl, sym, _∙_}
+use lib.ListN.{length, getD, replicate, length-replicate}
+use lib.Seq.{ext-getD}
 use Rattle.letters.specs.Letter.{bit}
-use Rattle.letters.proofs.Padding.{padded-length, padded-at, padded-beyond}
+use Rattle.letters.proofs.Padding.{same-at, padded-length, padded-at, padded-beyond}
 use Rattle.table.specs.Limits.{mostRows}
 use Rattle.table.specs.Row.{noRow}
 use Rattle.table.specs.declared.Row.{Row}
@@ -40,7 +42,7 @@ times-snoc event s row phase (k ∷ w) l =
     let rest = times-snoc event s row (stepRow row k phase) w l in omega (arith, rest)
 
 module _ (s : ℕ) (row : Row) where
-  pub totals-none : totalsOf s row [] ≡ noTotals
+  totals-none : totalsOf s row [] ≡ noTotals
   unfolding totalsOf timesOf traceEvents run isOpen
   totals-none = refl
 
@@ -133,3 +135,15 @@ module _ (s : ℕ) (rows : List Row) (w : List ℕ) where
   pub over-beyond : (i : ℕ) → length rows ≤ i → getD (totalsOver s rows w) i noTotals ≡ noTotals
   unfolding totalsOver
   over-beyond = padded-beyond each noTotals mostRows rows
+
+-- No letter, no totals.
+pub over-none : (s : ℕ) (rows : List Row) → length rows ≤ mostRows
+    → totalsOver s rows [] ≡ replicate mostRows noTotals
+over-none s rows few =
+    ext-getD noTotals (totalsOver s rows []) (replicate mostRows noTotals)
+    (over-length s rows [] few ∙ sym (length-replicate {A = Totals} mostRows noTotals))
+    (λ i low. none-at i (decLt i (length rows)) ∙ sym (same-at noTotals mostRows i))
+  where
+    none-at : (i : ℕ) → Dec (i < length rows) → getD (totalsOver s rows []) i noTotals ≡ noTotals
+    none-at i (yes used) = over-at s rows [] i used ∙ totals-none s (getD rows i noRow)
+    none-at i (no unused) = over-beyond s rows [] i (omega arith)

@@ -8,7 +8,7 @@ use mathlib.Core.List.{List, [], _∷_, _++_}
 use mathlib.Core.Path.{_≡_, refl, sym, ap, _∙_}
 use borrow.Author.Tests.{lt-ltb, leb-true, le-leb}
 use lib.Dec.{leb}
-use lib.ListN.{length, getD, replicate, length-replicate, getD-replicate}
+use lib.ListN.{length, getD, replicate}
 use lib.Seq.{ext-getD}
 use Rattle.letters.specs.Letter.{letters}
 use Rattle.table.specs.Limits.{mostRows}
@@ -43,8 +43,8 @@ use Rattle.load.specs.Load.{totalsOver}
 use Rattle.load.specs.Load.{longestRun, runNumber, notRun, runAnswer}
 use Rattle.load.specs.inner.Tally.{Room, AllRoom, withTick, tickedAt, AllTicked}
 use Rattle.load.proofs.Letters.{numberAfter, load-length, load-snoc, letter-below}
-use Rattle.load.proofs.RowTotals.{totals-none, totals-snoc, totals-most}
-use Rattle.load.proofs.RowTotals.{over-length, over-at, over-beyond}
+use Rattle.load.proofs.RowTotals.{totals-snoc, totals-most}
+use Rattle.load.proofs.RowTotals.{over-length, over-at, over-beyond, over-none}
 
 -- The first `tick` ticks of a run are done: the number is the one after them, the record of phases
 -- too, and the totals are those of their letters.
@@ -73,6 +73,10 @@ lets-by true ticks e = (refl, go (leb ticks longestRun) refl e)
     go false few e = absurd (omega arith)
 lets-by false ticks e = absurd (omega arith)
 
+pub rows-few : (table : Table) → tableValid table ≡ true → length (rowsOf table) ≤ mostRows
+rows-few table rules =
+    rowsValid-count (table .signals) (rowsOf table) (tableValid-rows table rules) .1
+
 module _ (table : Table) (start ticks : ℕ) where
   abbrev s : ℕ
   s = table .signals
@@ -82,9 +86,6 @@ module _ (table : Table) (start ticks : ℕ) where
 
   abbrev X : System
   X = tableSystem s rows
-
-  rows-few : tableValid table ≡ true → length rows ≤ mostRows
-  rows-few rules = rowsValid-count s rows (tableValid-rows table rules) .1
 
   pub running-starts : {number : ℕ} → number ≡ runNumber table ticks → number ≡ 0
       → Running table start ticks start startWatch (replicate mostRows noTotals) 0
@@ -97,18 +98,8 @@ module _ (table : Table) (start ticks : ℕ) where
         low = omega arith;
         number-is = refl;
         moved = refl;
-        counted =
-            ext-getD noTotals (replicate mostRows noTotals) (totalsOver s rows [])
-            (length-replicate {A = Totals} mostRows noTotals
-            ∙ sym (over-length s rows [] (rows-few (passed .0))))
-            (λ j low. getD-replicate mostRows j noTotals noTotals
-            (rw (length-replicate {A = Totals} mostRows noTotals) at low)
-            ∙ sym (none-at j (decLt j (length rows))));
+        counted = sym (over-none s rows (rows-few table (passed .0)));
       }
-    where
-      none-at : (j : ℕ) → Dec (j < length rows) → getD (totalsOver s rows []) j noTotals ≡ noTotals
-      none-at j (yes used) = over-at s rows [] j used ∙ totals-none s (getD rows j noRow)
-      none-at j (no unused) = over-beyond s rows [] j (omega arith)
 
   pub running-refused : {number : ℕ} → number ≡ runNumber table ticks → (number ≡ 0 → ⊥)
       → notRun (refusedAt number 0) ≡ runAnswer table start ticks
@@ -168,7 +159,7 @@ module _ (table : Table) (start ticks : ℕ) where
       taken =
           let fits : phasesValid rows (phasesOf watch) ≡ true =
           rw (p .moved) (run-valid s rows (phasesOf startWatch) w
-          (start-valid rows (rows-few (p .rules)))) in
+          (start-valid rows (rows-few table (p .rules)))) in
           told ∙ rw (p .rules, fits, lt-ltb letter (letters s) letter-low)
 
       -- The phases after it, and what happened.
@@ -240,7 +231,7 @@ module _ (table : Table) (start ticks : ℕ) where
         counted =
             ext-getD noTotals all (totalsOver s rows (loadOf s start (tick + 1)))
             (added .long ∙ sym (over-length s rows (loadOf s start (tick + 1))
-            (rows-few (p .rules))))
+            (rows-few table (p .rules))))
             (λ j low.
             let small : j < mostRows = rw (added .long) at low in
             added .are j small ∙ ticked-at j small ∙ total-at j small (decLt j (length rows))

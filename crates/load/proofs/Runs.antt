@@ -9,7 +9,6 @@ use mathlib.Core.Path.{_≡_, refl, sym, ap, _∙_}
 use borrow.Author.Tests.{le-leb, leb-true, leb-false}
 use lib.Dec.{leb}
 use lib.ListN.{length, getD, take, replicate, length-replicate}
-use lib.Seq.{ext-getD}
 use Rattle.letters.proofs.Padding.{same-at}
 use Rattle.table.specs.Limits.{mostRows}
 use Rattle.table.specs.Refusal.{refusedAt}
@@ -19,7 +18,6 @@ use Rattle.table.specs.further.Numbers.{numberOf, lineOf}
 use Rattle.table.specs.declared.Outcome.the-variants.{Accepted}
 use Rattle.table.specs.declared.Row.{Row}
 use Rattle.table.specs.declared.Table.{Table}
-use Rattle.table.proofs.Laws.{tableValid-rows, rowsValid-count}
 use Rattle.watcher.specs.Answer.{answered}
 use Rattle.watcher.proofs.Starts.{number-is, line-is, refused-is}
 use Rattle.load.specs.declared.Ran.{Ran}
@@ -28,9 +26,9 @@ use Rattle.load.specs.Load.{numbersFrom, loadOf, totalsOf, noTotals, tot
 use Rattle.load.specs.Load.{sumsOf, longestRun, runNumber, notRun, runAnswer}
 use Rattle.load.specs.further.Balance.{Balanced, SumsBalanced, AtMost}
 use Rattle.load.proofs.Letters.{load-length}
-use Rattle.load.proofs.RowTotals.{totals-none, totals-most, totals-balance}
-use Rattle.load.proofs.RowTotals.{over-length, over-at, over-beyond}
-use Rattle.load.proofs.Running.{lets-by}
+use Rattle.load.proofs.RowTotals.{totals-most, totals-balance}
+use Rattle.load.proofs.RowTotals.{over-length, over-at, over-beyond, over-none}
+use Rattle.load.proofs.Running.{lets-by, rows-few}
 use Rattle.load.proofs.Summing.{sums-balance}
 
 -- Which number a run has.
@@ -121,8 +119,7 @@ module _ (table : Table) (start ticks : ℕ) where
     where
       go : (n : ℕ) → runNumber table ticks ≡ n
           → length (answered n done refused .totals) ≡ mostRows
-      go zero e = over-length s rows w (rowsValid-count s rows
-          (tableValid-rows table (lets-by (tableValid table) ticks e .0)) .1)
+      go zero e = over-length s rows w (rows-few table (lets-by (tableValid table) ticks e .0))
       go (suc n) e = length-replicate {A = Totals} mostRows noTotals
 
   pub run-unused : (i : ℕ) → length rows ≤ i → totalsAt i ≡ noTotals
@@ -157,13 +154,15 @@ module _ (table : Table) (start ticks : ℕ) where
 -- No tick, no total.
 pub none-run : (table : Table) (start : ℕ)
     → runAnswer table start 0 .totals ≡ replicate mostRows noTotals
-unfolding numbersFrom
-none-run table start =
-    ext-getD noTotals (runAnswer table start 0 .totals) (replicate mostRows noTotals)
-    (run-length table start 0 ∙ sym (length-replicate {A = Totals} mostRows noTotals))
-    (λ i low. by-place table start 0 (λ t. t ≡ noTotals) i refl
-    (λ used. totals-none (table .signals) (getD (rowsOf table) i noRow))
-    ∙ sym (same-at noTotals mostRows i))
+unfolding runAnswer answered numbersFrom
+none-run table start = go (runNumber table 0) refl
+  where
+    go : (n : ℕ) → runNumber table 0 ≡ n
+        → answered n (done table start 0) (refused table start 0) .totals
+        ≡ replicate mostRows noTotals
+    go zero e = over-none (table .signals) (rowsOf table)
+        (rows-few table (lets-by (tableValid table) 0 e .0))
+    go (suc n) e = refl
 
 -- The sums of any rows over any trace are balanced.
 pub rows-balance : (s : ℕ) (rows : List Row) (w : List ℕ)
