@@ -30,7 +30,7 @@ use Rattle.load.proofs.Summing as Summing
 use Rattle.report.specs.Totals.{runBytes}
 use Rattle.report.proofs.TotalsText as Text
 use Rattle.report.proofs.TotalsText.{SameTotals}
-use Rattle.checker.specs.FileLoad.{mostTotals}
+use Rattle.checker.specs.FileLoad.{loadStart, loadTicks, mostTotals}
 use Rattle.checker.specs.inner.Computed.{loadAnswer}
 use Rattle.checker.proofs.TotalsLength as TotalsLength
 use Rattle.demands.specs.Watching.{recordAfter, eventsOver}
@@ -40,8 +40,8 @@ use Rattle.demands.proofs.LoadLaws as Laws
 use Rattle.demands.proofs.LoadTexts as Texts
 use Rattle.demands.proofs.Watching as Watching
 
--- The load is the one that document 02 describes, and no other; each of its letters is one of the
--- table's, so that no call of the watcher is refused with 19, nor otherwise.
+-- The load is the one that document 02 describes, and no other; and each of its letters is one of
+-- the table's.
 module _ (s start ticks : ℕ) where
   pub load-described : IsLoad s start ticks (loadOf s start ticks)
   load-described = Letters.load-described s start ticks
@@ -52,6 +52,11 @@ module _ (s start ticks : ℕ) where
   pub load-letters : AllBelow (letters s) (loadOf s start ticks)
   load-letters = Letters.load-below s start ticks
 
+-- "Takes 1,000 ticks from 1": the letters of `loadtable`.
+pub program-load : (s : ℕ) → IsLoad s 1 1000 (loadOf s loadStart loadTicks)
+program-load s = load-described s 1 1000
+
+-- No call of the watcher is refused after a load, with 19 or otherwise.
 pub load-taken : (s : ℕ) (rows : List Row) (start ticks l : ℕ) → rowsValid s rows ≡ true
     → l < letters s
     → tickAnswer s rows (recordAfter s rows startWatch (loadOf s start ticks)) l .reply .outcome
@@ -91,7 +96,7 @@ module _ (table : Table) (start ticks : ℕ) where
   run-17 = Runs.run-17 table start ticks
 
   pub run-22 : (numberOf (ran .outcome) ≡ 22)
-      ↔ ((tableValid table ≡ true) × (longestRun < ticks))
+      ↔ ((tableValid table ≡ true) × (65535 < ticks))
   run-22 = Runs.run-22 table start ticks
 
   pub run-line : lineOf (ran .outcome) ≡ 0
