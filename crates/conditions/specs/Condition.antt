@@ -1,5 +1,4 @@
 -- Conditions as trees: the bytes of each, and what each says of a letter.
-use Prim.Native.Char.{code}
 use Prim.Native.Nat.{ℕ, suc, _≤_}
 use mathlib.Core.Bool.{Bool, true, false, not, _&&_, _||_, cond}
 use mathlib.Core.List.{List, [], _∷_, _++_}
@@ -11,6 +10,7 @@ use Rattle.letters.specs.Lists.{every}
 use Rattle.table.specs.Limits.{nameLength}
 use Rattle.table.specs.Name.{isLowercase, sameName}
 use Rattle.table.specs.declared.Name.{Name}
+use Rattle.text.specs.Words.{orSign, andSign, notSign, falseSign, trueSign, openSign, closeSign}
 
 -- "A name has 1 to 8 letters a-z."
 pub record IsName (w : List ℕ) : Type 0 where
@@ -37,14 +37,14 @@ pub data Condition : Kind → Type 0 where
 -- The bytes of a condition.
 unfoldable pub text : {k : Kind} → Condition k → List ℕ
 text (oneTerm t) = text t
-text (or t c) = text t ++ code "|" ∷ text c
+text (or t c) = text t ++ orSign ∷ text c
 text (oneFactor f) = text f
-text (and f t) = text f ++ code "&" ∷ text t
-text (negated f) = code "!" ∷ text f
+text (and f t) = text f ++ andSign ∷ text t
+text (negated f) = notSign ∷ text f
 text (named w _) = w
-text never = code "0" ∷ []
-text always = code "1" ∷ []
-text (grouped c) = code "(" ∷ text c ++ code ")" ∷ []
+text never = falseSign ∷ []
+text always = trueSign ∷ []
+text (grouped c) = openSign ∷ text c ++ closeSign ∷ []
 
 -- A name as a table value keeps it: its letters, then zeros, in eight places.
 unfoldable pub nameOf : List ℕ → Name

@@ -10,7 +10,8 @@ use lib.ListN.{length, getD, take, drop, drop-of-length-le, length-drop}
 use lib.Seq.{drop-cons, take-all}
 use Rattle.letters.specs.Lists.{every, sameBytes}
 use Rattle.table.specs.Name.{isLowercase}
-use Rattle.header.specs.Header.{isDigit16, PNP, version1}
+use Rattle.text.specs.Words.{PNP, version1}
+use Rattle.header.specs.Header.{isDigit16}
 use Rattle.header.specs.inner.Header.{headerNumber, nameShaped}
 use Rattle.text.proofs.Parts.{rest-whole}
 

@@ -14,10 +14,11 @@ use Rattle.letters.proofs.Lists.{sameBytes-refl}
 use Rattle.table.specs.Limits.{mostSignals}
 use Rattle.table.specs.Name.{isLowercase, allDistinct}
 use Rattle.text.specs.Lines.{LF, space, joined, count, All, none, and, Free}
+use Rattle.text.specs.Words.{PNP, version1, signalsWord}
 use Rattle.text.specs.inner.Cut.{split}
 use Rattle.text.proofs.Joins.{split-joined, joined-split, joined-free, passing-free}
 use Rattle.conditions.specs.Condition.{IsName, nameOf}
-use Rattle.header.specs.Header.{isDigit16, PNP, version1, IsHeader, signalsWord, IsSignals}
+use Rattle.header.specs.Header.{isDigit16, IsHeader, IsSignals}
 use Rattle.header.specs.Header.{namesFrom}
 use Rattle.header.specs.inner.Header.{headerNumber, nameShaped, signalsNumber, signalsAnswer}
 use Rattle.header.specs.inner.Header.{signalsRefused}

@@ -17,10 +17,11 @@ use Rattle.table.specs.Limits.{mostSignals}
 use Rattle.table.specs.Name.{allDistinct}
 use Rattle.table.specs.declared.Name.{Name}
 use Rattle.text.specs.Lines.{count, space, joined}
+use Rattle.text.specs.Words.{signalsWord}
 use Rattle.text.specs.inner.Cut.{split, front, after}
 use Rattle.text.proofs.Splits.{front-whole, split-front, split-cons, front-after}
 use Rattle.conditions.specs.Condition.{nameOf}
-use Rattle.header.specs.Header.{IsSignals, signalsWord, noName, namesFrom}
+use Rattle.header.specs.Header.{IsSignals, noName, namesFrom}
 use Rattle.header.specs.inner.Header.{nameShaped, signalsNumber, signalsRefused}
 use Rattle.header.specs.inner.Header.{signalsAnswer}
 use Rattle.text.proofs.Joins.{joined-split}

@@ -9,19 +9,13 @@ use lib.ListN.{length, replicate}
 use Rattle.letters.specs.Lists.{every}
 use Rattle.table.specs.Limits.{mostSignals, nameLength}
 use Rattle.table.specs.declared.Name.{Name}
-use Rattle.text.specs.Bytes.{bytes}
 use Rattle.text.specs.Lines.{space, joined, All}
+use Rattle.text.specs.Words.{PNP, signalsWord}
 use Rattle.conditions.specs.Condition.{IsName, nameOf}
 
 -- "Line 1 is `PNP ` and the 16-bit version as four digits 0-9, A-F (base 16): `PNP 0001`."
 abbrev pub isDigit16 : ℕ → Bool
 isDigit16 b = leb (code "0") b && leb b (code "9") || leb (code "A") b && leb b (code "F")
-
-abbrev pub PNP : List ℕ
-PNP = bytes "PNP "
-
-abbrev pub version1 : List ℕ
-version1 = bytes "0001"
 
 pub record IsHeader (line version : List ℕ) : Type 0 where
   pub line-is : line ≡ PNP ++ version
@@ -29,9 +23,6 @@ pub record IsHeader (line version : List ℕ) : Type 0 where
   pub digits : every isDigit16 version ≡ true
 
 -- "Line 2 is `signals`, then a space and a name for each signal."
-abbrev pub signalsWord : List ℕ
-signalsWord = bytes "signals"
-
 pub record IsSignals (line : List ℕ) (names : List (List ℕ)) : Type 0 where
   pub line-is : line ≡ joined space (signalsWord ∷ names)
   pub some : 1 ≤ length names

@@ -12,10 +12,10 @@ use Rattle.table.specs.Limits.{mostBytes, mostSignals, mostRows}
 use Rattle.table.specs.Name.{allDistinct}
 use Rattle.table.specs.declared.Row.{Row}
 use Rattle.text.specs.Lines.{LF}
+use Rattle.text.specs.Words.{PNP, version1}
 use Rattle.text.specs.inner.Cut.{lines}
 use Rattle.text.proofs.Joins.{ended-lines, lines-free, lines-some}
 use Rattle.conditions.specs.Condition.{nameOf}
-use Rattle.header.specs.Header.{PNP, version1}
 use Rattle.header.proofs.Shapes.{Line1, first, other, misshapen, line1-found, Line2, signals}
 use Rattle.header.proofs.Shapes.{misshapen as misshapen2, line2-found}
 use Rattle.header.proofs.SignalLaws.{length-none}

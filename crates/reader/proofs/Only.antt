@@ -11,10 +11,11 @@ use Rattle.table.specs.Limits.{mostRows}
 use Rattle.table.specs.declared.Row.{Row}
 use Rattle.table.specs.declared.Table.{Table}
 use Rattle.text.specs.Lines.{LF, space, ended}
+use Rattle.text.specs.Words.{PNP, version1}
 use Rattle.text.specs.inner.Cut.{split, lines}
 use Rattle.text.proofs.Joins.{lines-ended, ended-last}
 use Rattle.conditions.specs.Condition.{nameOf}
-use Rattle.header.specs.Header.{PNP, version1, namesFrom}
+use Rattle.header.specs.Header.{namesFrom}
 use Rattle.header.specs.inner.Header.{signalsAnswer}
 use Rattle.header.specs.declared.Signals.{Signals}
 use Rattle.header.proofs.Shapes.{header-first, header-other, header-none, header-right}

@@ -16,9 +16,10 @@ use Rattle.table.specs.declared.Row.{Row}
 use Rattle.table.proofs.Laws.{RowBounds, rowValid-bounds}
 use Rattle.text.specs.Bounds.{decimal}
 use Rattle.text.specs.Lines.{ended, joined, count, comma, All, none as all-none, and as all-and}
+use Rattle.text.specs.Words.{ruleWord}
 use Rattle.text.proofs.Decimals.{decimal-length}
 use Rattle.conditions.specs.Condition.{oneTerm, oneFactor, never, text, holdsAt, unknown}
-use Rattle.rows.specs.Row.{ruleWord, FieldKind, aCondition, aBound, fieldKinds, rowValues, IsField}
+use Rattle.rows.specs.Row.{FieldKind, aCondition, aBound, fieldKinds, rowValues, IsField}
 use Rattle.rows.specs.Row.{AreFields, none as nothing, and as also, IsRow}
 use Rattle.rows.proofs.Fields.{fields-free}
 use Rattle.conditions.specs.Judge.{IsCondition}

@@ -24,8 +24,9 @@ use Rattle.table.proofs.Laws.{rowsValid-rows, tableValid-rows, tableValid-names
 use Rattle.table.proofs.Laws.{tableValid-signals}
 use Rattle.text.specs.Lines.{ended, joined, count, LF, space, Free, All, none as all-none}
 use Rattle.text.specs.Lines.{and as all-and}
+use Rattle.text.specs.Words.{PNP, version1, signalsWord}
 use Rattle.conditions.specs.Condition.{nameOf, IsName}
-use Rattle.header.specs.Header.{PNP, version1, signalsWord, noName, namesFrom, IsSignals}
+use Rattle.header.specs.Header.{noName, namesFrom, IsSignals}
 use Rattle.rows.proofs.Rules.{row-free}
 use Rattle.header.proofs.Shapes.{signals-free}
 use Rattle.reader.specs.Reading.{tableFrom}

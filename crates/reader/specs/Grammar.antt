@@ -10,8 +10,9 @@ use Rattle.table.specs.Name.{allDistinct}
 use Rattle.table.specs.declared.Row.{Row}
 use Rattle.table.specs.declared.Table.{Table}
 use Rattle.text.specs.Lines.{LF, ended, Free}
+use Rattle.text.specs.Words.{PNP, version1}
 use Rattle.conditions.specs.Condition.{nameOf}
-use Rattle.header.specs.Header.{PNP, version1, IsSignals, namesFrom}
+use Rattle.header.specs.Header.{IsSignals, namesFrom}
 use Rattle.rows.specs.Row.{IsRow}
 use Rattle.reader.specs.Reading.{tableFrom}
 

@@ -12,8 +12,9 @@ use Rattle.table.specs.Name.{allDistinct}
 use Rattle.table.specs.declared.Row.{Row}
 use Rattle.table.specs.declared.Table.{Table}
 use Rattle.text.specs.Lines.{LF}
+use Rattle.text.specs.Words.{PNP, version1}
 use Rattle.conditions.specs.Condition.{nameOf}
-use Rattle.header.specs.Header.{PNP, version1, IsHeader, IsSignals}
+use Rattle.header.specs.Header.{IsHeader, IsSignals}
 use Rattle.rows.specs.Row.{RowFault}
 use Rattle.reader.specs.Grammar.{AreLines, HasNames, HasHeader, AreRows, IsFile}
 use Rattle.reader.specs.Reading.{accepted, refusedFile}

@@ -17,6 +17,7 @@ use Rattle.letters.proofs.Lists.{and-left, and-right, sameBytes-true}
 use Rattle.table.specs.Limits.{mostTicks}
 use Rattle.table.specs.declared.Name.{Name}
 use Rattle.text.specs.Lines.{count, comma}
+use Rattle.text.specs.Words.{ruleWord}
 use Rattle.text.specs.inner.Cut.{split, front}
 use Rattle.text.specs.inner.Bounds.{boundOf}
 use Rattle.text.specs.declared.Bound.{Bound}
@@ -33,7 +34,6 @@ use Rattle.rows.specs.declared.Values.{Values}
 use Rattle.rows.specs.inner.Row.{boundAt, ticksField, judgedField, fieldOf, fieldsOf}
 use Rattle.rows.specs.inner.Row.{numberAmong, valueOf, setsFrom, boundsFrom, boundsOrdered}
 use Rattle.rows.specs.inner.Row.{judgedRow, rowRefused, rowFields}
-use Rattle.rows.specs.Row.{ruleWord}
 use Rattle.rows.specs.inner.Gathering.{valuesAnswer}
 use Rattle.conditions.proofs.Judging.{judge-some}
 

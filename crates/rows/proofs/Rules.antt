@@ -17,12 +17,13 @@ use Rattle.letters.proofs.Lists.{and-left, and-right, sameBytes-true}
 use Rattle.table.specs.declared.Name.{Name}
 use Rattle.table.specs.declared.Row.{Row}
 use Rattle.text.specs.Lines.{LF, comma, joined, count}
+use Rattle.text.specs.Words.{ruleWord}
 use Rattle.text.specs.inner.Cut.{split}
 use Rattle.text.proofs.Splits.{split-length}
 use Rattle.text.proofs.Joins.{split-joined, joined-split, split-free, joined-free}
 use Rattle.conditions.specs.declared.Judged.the-variants.{Refused as NoCondition}
 use Rattle.conditions.proofs.Judging.{judge-number, right-judge}
-use Rattle.rows.specs.Row.{ruleWord, FieldKind, fieldKinds, IsRule, rowValues, Ordered}
+use Rattle.rows.specs.Row.{FieldKind, fieldKinds, IsRule, rowValues, Ordered}
 use Rattle.rows.specs.Row.{AreFields, none, and, HasFields, IsRow, FirstFault, noCondition}
 use Rattle.rows.specs.Row.{noBound, later, RowFault, misshapen, inField, crossed}
 use Rattle.rows.specs.inner.Row.{fieldsOf, numberAmong, valueOf, setsFrom, boundsFrom}

@@ -6,16 +6,13 @@ use lib.ListN.{length, take, drop}
 use Rattle.table.specs.declared.Name.{Name}
 use Rattle.table.specs.declared.Row.{Row}
 use Rattle.text.specs.Bounds.{IsBound}
-use Rattle.text.specs.Bytes.{bytes}
 use Rattle.text.specs.Lines.{comma, joined, Free}
+use Rattle.text.specs.Words.{ruleWord}
 use Rattle.conditions.specs.Judge.{IsCondition, RightCondition}
 use Rattle.conditions.specs.declared.Judged.the-variants.{Refused}
 
 -- "Every further line is `rule `, then twelve fields with eleven commas between them: TSE, TC, TEE,
 -- Tmin, Tmax, Lmin, Lmax, ASE, AC, AEE, Amin, Amax." A field is a condition, or a bound.
-abbrev pub ruleWord : List ℕ
-ruleWord = bytes "rule "
-
 pub data FieldKind : Type 0 where
   aCondition aBound : FieldKind
 

@@ -1,11 +1,11 @@
 -- What the code says of a condition: `proofs/Judging.antt` shows that it is right, and the only
 -- right one.
-use Prim.Native.Char.{code}
 use Prim.Native.Nat.{ℕ, _+_}
 use mathlib.Core.Bool.{Bool, false, _||_, cond}
 use mathlib.Core.List.{List, [], _∷_}
 use lib.Dec.{eqb, ltb}
 use Rattle.table.specs.declared.Name.{Name}
+use Rattle.text.specs.Words.{openSign, closeSign}
 use Rattle.conditions.specs.Depth.{mostOpen}
 use Rattle.conditions.specs.inner.Reading.{conditionOf}
 use Rattle.conditions.specs.declared.Read.{Read}
@@ -20,8 +20,8 @@ isByte b x = cond (eqb b x) 1 0
 unfoldable pub deep : ℕ → ℕ → List ℕ → Bool
 deep o c [] = false
 deep o c (b ∷ xs) =
-    let opened = o + isByte b (code "(") in
-    let closed = c + isByte b (code ")") in
+    let opened = o + isByte b openSign in
+    let closed = c + isByte b closeSign in
     ltb (closed + mostOpen) opened || deep opened closed xs
 
 abbrev pub verdictOf : Read → Judged

@@ -1,6 +1,5 @@
 -- Reading a condition at a place of the bytes s, as the code does. `Condition` and `Judge` say what
 -- is right. The fuel is enough where it is more than three for each byte left, and two more.
-use Prim.Native.Char.{code}
 use Prim.Native.Nat.{ℕ, zero, suc, _+_, _*_, _-_, _<_}
 use mathlib.Core.Bool.{Bool, true, false, not, _||_, cond}
 use mathlib.Core.List.{List}
@@ -12,6 +11,7 @@ use Rattle.conditions.specs.Condition.{Kind, choice, term, factor, nameO
 use Rattle.table.specs.Limits.{nameLength}
 use Rattle.table.specs.Name.{nameRun}
 use Rattle.table.specs.declared.Name.{Name}
+use Rattle.text.specs.Words.{orSign, andSign, notSign, falseSign, trueSign, openSign, closeSign}
 use Rattle.letters.specs.Letter.{inSet, signalOn, setOf}
 use Rattle.conditions.specs.declared.Read.{Read}
 use Rattle.conditions.specs.declared.Read.the-variants.{Set, Nothing}
@@ -29,7 +29,7 @@ others n (Set v u next) = Set (setOf n (λ l. not (inSet v l))) u next
 others n Nothing = Nothing
 
 abbrev pub closed : List ℕ → Read → Read
-closed s (Set v u next) = cond (isAt s next (code ")")) (Set v u (next + 1)) Nothing
+closed s (Set v u next) = cond (isAt s next closeSign) (Set v u (next + 1)) Nothing
 closed s Nothing = Nothing
 
 -- more of the same kind follows where the byte b stands
@@ -56,18 +56,18 @@ module _ (names : List Name) (n : ℕ) (s : List ℕ) where
 
   unfoldable pub digitAt : ℕ → Read
   digitAt at =
-      cond (isAt s at (code "0")) (Set 0 false (at + 1))
-      (cond (isAt s at (code "1")) (Set (setOf n (λ _. true)) false (at + 1))
+      cond (isAt s at falseSign) (Set 0 false (at + 1))
+      (cond (isAt s at trueSign) (Set (setOf n (λ _. true)) false (at + 1))
       (nameAt at (nameRun (drop at s))))
 
   unfoldable pub reads : ℕ → Kind → ℕ → Read
   reads zero k at = Nothing
-  reads (suc f) choice at = followed s (code "|") (reads f choice) bitOr (reads f term at)
-  reads (suc f) term at = followed s (code "&") (reads f term) bitAnd (reads f factor at)
+  reads (suc f) choice at = followed s orSign (reads f choice) bitOr (reads f term at)
+  reads (suc f) term at = followed s andSign (reads f term) bitAnd (reads f factor at)
   reads (suc f) factor at =
       let negation = others n (reads f factor (at + 1)) in
       let group = closed s (reads f choice (at + 1)) in
-      cond (isAt s at (code "!")) negation (cond (isAt s at (code "(")) group (digitAt at))
+      cond (isAt s at notSign) negation (cond (isAt s at openSign) group (digitAt at))
 
 -- r is what is read at a place, with any fuel that is enough
 pub record ReadsAs (names : List Name) (n : ℕ) (s : List ℕ) (k : Kind) (at : ℕ) (r : Read) : Type 0

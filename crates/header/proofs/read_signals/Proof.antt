@@ -16,12 +16,12 @@ use Rattle.text.specs.inner.Cut.{front}
 use Rattle.text.proofs.Splits.{front-length, front-take}
 use Rattle.conditions.specs.Condition.{nameOf}
 use Rattle.header.specs.inner.Header.{nameShaped}
-use Rattle.header.specs.Header.{signalsWord}
 use Rattle.text.proofs.Parts.{rest-whole, part-front}
 use Prim.Native.Nat.{ℕ, _≤_, _-_, _+_}
 use borrow.Author.Needs.{needs}
 use Rattle.header.proofs.read_signals.Statement.{statement}
 use Rattle.text.specs.Lines.{space}
+use Rattle.text.specs.Words.{signalsWord}
 use Rattle.header.proofs.read_signals.Tie as tie
 
 abbrev Inv-loop : tie.InvT-loop

@@ -7,8 +7,9 @@ use lib.ListN.{length, take, drop, replicate}
 use Rattle.letters.specs.Lists.{every, sameBytes}
 use Rattle.table.specs.Limits.{mostSignals, nameLength}
 use Rattle.table.specs.Name.{isLowercase, allDistinct}
+use Rattle.text.specs.Words.{PNP, version1, signalsWord}
 use Rattle.conditions.specs.Condition.{nameOf}
-use Rattle.header.specs.Header.{isDigit16, PNP, version1, signalsWord, noName, namesFrom}
+use Rattle.header.specs.Header.{isDigit16, noName, namesFrom}
 use Rattle.header.specs.declared.Signals.{Signals}
 
 -- 4, then 5.

@@ -7,7 +7,7 @@ use mathlib.Core.Path.{_≡_, sym, _∙_}
 use lib.ListN.{take}
 use Rattle.letters.specs.Lists.{sameBytes}
 use Rattle.text.specs.Lines.{count, comma}
-use Rattle.rows.specs.Row.{ruleWord}
+use Rattle.text.specs.Words.{ruleWord}
 use Rattle.rows.specs.inner.Row.{rowAnswer}
 use Rattle.rows.proofs.RowLaws.{rule-length, rule-commas, row-fault, row-passed, values-held}
 use Rattle.rows.proofs.RowLaws.{bounds-low}

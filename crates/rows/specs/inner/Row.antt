@@ -7,6 +7,7 @@ use lib.ListN.{getD, drop, replicate}
 use Rattle.table.specs.declared.Name.{Name}
 use Rattle.table.specs.declared.Row.{Row}
 use Rattle.text.specs.Lines.{comma, count}
+use Rattle.text.specs.Words.{ruleWord}
 use Rattle.text.specs.inner.Cut.{startsWith, split}
 use Rattle.text.specs.inner.Bounds.{boundOf}
 use Rattle.text.specs.declared.Bound.{Bound}
@@ -14,7 +15,6 @@ use Rattle.text.specs.declared.Bound.the-variants.{Value as Ticks, Wrong}
 use Rattle.conditions.specs.inner.Judge.{judge}
 use Rattle.conditions.specs.declared.Judged.{Judged}
 use Rattle.conditions.specs.declared.Judged.the-variants.{Letters, Refused as NoCondition}
-use Rattle.rows.specs.Row.{ruleWord}
 use Rattle.rows.specs.declared.Field.{Field}
 use Rattle.rows.specs.declared.Field.the-variants.{Value, Refused}
 use Rattle.rows.specs.declared.RowRead.{RowRead}
