@@ -15,20 +15,12 @@ use Rattle.letters.specs.Lists.{every}
 use Rattle.letters.proofs.Lists.{and-left, and-right}
 use Rattle.table.specs.Name.{isLowercase, nameRun}
 use Rattle.table.specs.declared.Name.{Name}
+use Rattle.table.proofs.Laws.{nameRun-le}
 use Rattle.conditions.specs.Condition.{nameOf, place}
 use Rattle.conditions.specs.inner.Reading.{nameAt}
 use Rattle.conditions.specs.declared.Read.the-variants.{Set, Nothing}
 
 -- The letters in front.
-pub nameRun-le : (xs : List ℕ) → nameRun xs ≤ length xs
-unfolding nameRun
-nameRun-le [] = omega arith
-nameRun-le (b ∷ xs) = go (isLowercase b) (nameRun-le xs)
-  where
-    go : (t : Bool) → nameRun xs ≤ length xs → cond t (suc (nameRun xs)) 0 ≤ suc (length xs)
-    go true h = omega arith
-    go false h = omega arith
-
 pub nameRun-every : (xs : List ℕ) → every isLowercase (take (nameRun xs) xs) ≡ true
 unfolding nameRun every
 nameRun-every [] = refl

@@ -24,7 +24,8 @@ use Rattle.conditions.specs.inner.Reading.{nameAt, digitAt, reads}
 use Rattle.conditions.specs.declared.Read.{Read}
 use Rattle.conditions.specs.declared.Read.the-variants.{Set, Nothing}
 use Rattle.conditions.proofs.Bytes.{isAt-cons, isAt-lt}
-use Rattle.conditions.proofs.Names.{nameRun-le, nameRun-every}
+use Rattle.conditions.proofs.Names.{nameRun-every}
+use Rattle.table.proofs.Laws.{nameRun-le}
 
 -- The bytes from one place to another are written by a condition with that set and flag.
 pub record Wrote (names : List Name) (n : ℕ) (s : List ℕ) (k : Kind) (at v : ℕ) (u : Bool)

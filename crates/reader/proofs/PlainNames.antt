@@ -15,7 +15,8 @@ use Rattle.table.specs.Name.{nameRun, nameValid, nameUnused}
 use Rattle.table.specs.declared.Name.{Name}
 use Rattle.text.specs.Lines.{All, none as all-none, and as all-and}
 use Rattle.conditions.specs.Condition.{nameOf, IsName}
-use Rattle.conditions.proofs.Names.{nameRun-le, nameRun-every, filled, nameOf-filled}
+use Rattle.conditions.proofs.Names.{nameRun-every, filled, nameOf-filled}
+use Rattle.table.proofs.Laws.{nameRun-le}
 use Rattle.header.specs.Header.{noName}
 
 -- A name's letters, in front of its zeros.

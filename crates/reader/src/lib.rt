@@ -2,6 +2,7 @@
 // accepted files, specs/Right.antt which number and line each other one gets. Crate `header` reads
 // lines 1 and 2, crate `rows` each further line.
 use table::CONDITIONS;
+use table::MOST_BYTES;
 use table::MOST_ROWS;
 use table::MOST_SIGNALS;
 use table::NAME_CHARS;
@@ -18,8 +19,6 @@ ghost use Rattle.text.specs.inner.Cut.{lines};
 ghost use Rattle.reader.specs.Reading.{emptyTable, refusedFile};
 ghost use Rattle.reader.specs.inner.File.{rowsAnswer, bodyAnswer, readAnswer};
 ghost use Rattle.reader.specs.inner.Gathering.{gathered};
-
-pub const MOST_BYTES: usize = 4096;
 
 // What a file is read as. The table of a refused file is empty: everything in it is 0.
 pub struct Reading {

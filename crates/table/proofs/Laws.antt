@@ -1,9 +1,10 @@
 -- Laws of names and of table values. A loop's turn at place i: `-next` where it goes on, `-stop`
 -- where it settles the answer, `-end` past the last place. Assumes nothing.
-use Prim.Native.Nat.{ℕ, _+_, _<_, _≤_}
+use Prim.Native.Nat.{ℕ, suc, _+_, _<_, _≤_}
 use native.Mathlib.Numerals.{add-one}
-use mathlib.Core.Bool.{true, false, _&&_, not}
-use mathlib.Core.List.{List}
+use native.Mathlib.Omega.{arith}
+use mathlib.Core.Bool.{Bool, true, false, _&&_, not, cond}
+use mathlib.Core.List.{List, [], _∷_}
 use mathlib.Core.Path.{_≡_}
 use lib.ListN.{length, getD, take, drop, drop-of-length-le}
 use lib.Seq.{drop-cons, getD-take}
@@ -19,6 +20,15 @@ use Rattle.table.specs.declared.Row.{Row}
 use Rattle.table.specs.declared.Table.{Table}
 
 -- Letters in front.
+pub nameRun-le : (xs : List ℕ) → nameRun xs ≤ length xs
+unfolding nameRun
+nameRun-le [] = omega arith
+nameRun-le (b ∷ xs) = go (isLowercase b) (nameRun-le xs)
+  where
+    go : (t : Bool) → nameRun xs ≤ length xs → cond t (suc (nameRun xs)) 0 ≤ suc (length xs)
+    go true h = omega arith
+    go false h = omega arith
+
 module _ (xs : List ℕ) (i : ℕ) where
   pub nameRun-next : i < length xs → isLowercase (getD xs i 0) ≡ true
       → nameRun (drop i xs) ≡ nameRun (drop (i + 1) xs) + 1

@@ -7,6 +7,8 @@ ghost use mathlib.Core.Path.{_≡_};
 ghost use Rattle.table.specs.Valid.{tableValid};
 
 // The limits of document 01. specs/Limits.antt has them too.
+pub const MOST_BYTES: usize = 4096;
+
 pub const MOST_SIGNALS: usize = 6;
 
 pub const MOST_ROWS: usize = 8;

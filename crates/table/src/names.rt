@@ -17,7 +17,7 @@ pub fn is_lowercase(b: u8) -> bool
 }
 
 // How many letters a name begins with.
-fn name_run(chars: [u8; NAME_CHARS]) -> usize
+pub fn name_run(chars: [u8; NAME_CHARS]) -> usize
     ensures { λ r. ⌜ r ≡ nameRun chars ⌝ }
 {
     let mut i: usize = 0;
