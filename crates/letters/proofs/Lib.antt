@@ -7,3 +7,4 @@ pub mod Padding
 pub mod Bits
 pub mod Sets
 pub mod Lowest
+pub mod Members

@@ -14,7 +14,7 @@ same-at d (suc n) zero = refl
 same-at d (suc n) (suc i) = same-at d n i
 
 module _ {A B : Type 0} (f : A → B) where
-  map-at : (xs : List A) (a : A) (d : B) (i : ℕ) → i < length xs
+  pub map-at : (xs : List A) (a : A) (d : B) (i : ℕ) → i < length xs
       → getD (map f xs) i d ≡ f (getD xs i a)
   map-at [] a d i h = absurd (omega arith)
   map-at (x ∷ xs) a d zero h = refl

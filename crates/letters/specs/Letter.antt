@@ -1,6 +1,7 @@
 -- Letters and sets of letters.
 use Prim.Native.Nat.{ℕ, zero, suc, _+_, _*_, _/_, _%_, _^_, min}
-use mathlib.Core.Bool.{Bool, true, false}
+use mathlib.Core.Bool.{Bool, true, false, cond}
+use mathlib.Core.List.{List, [], _∷_}
 use lib.Dec.{eqb, ltb}
 
 -- Whether bit k of the number x is 1.
@@ -35,6 +36,11 @@ setBits = 64
 -- How many letters it can hold: with up to six signals all of them.
 abbrev pub width : ℕ → ℕ
 width s = min setBits (letters s)
+
+-- The letters of a set, smallest first, of the n letters from l on.
+unfoldable pub members : ℕ → ℕ → ℕ → List ℕ
+members zero l set = []
+members (suc n) l set = let later = members n (suc l) set in cond (inSet set l) (l ∷ later) later
 
 -- The set of the letters below n at which a test holds.
 abbrev pub bit : Bool → ℕ
