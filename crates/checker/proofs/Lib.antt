@@ -3,3 +3,4 @@
 pub mod Checking
 pub mod ReportLength
 pub mod TotalsLength
+pub mod Writing

@@ -1,15 +1,21 @@
-// The checker: the bytes of a table file in, the bytes of its report or of its totals out.
-// specs/FileReport.antt and specs/FileLoad.antt say what is right, for every file and all lent
-// memory.
+// The checker: the bytes of a table file in, the bytes of its report, of its totals or of its table
+// written again out. specs/FileReport.antt and specs/FileLoad.antt say what is right, for every file
+// and all lent memory.
+use table::MOST_BYTES;
 use table::Outcome;
+use table::Table;
 use verdict::Found;
+ghost use mathlib.Core.Bool.{true};
 ghost use mathlib.Core.Path.{_≡_};
 ghost use lib.ListN.{length};
+ghost use Rattle.table.specs.Valid.{tableValid};
+ghost use Rattle.table.specs.declared.Outcome.the-variants.{Accepted};
 ghost use Rattle.verdict.specs.Buffer.{written};
 ghost use Rattle.search.specs.Lent.{lentLists};
 ghost use Rattle.checker.specs.FileReport.{programLent};
 ghost use Rattle.checker.specs.inner.Computed.{checkCall};
 ghost use Rattle.checker.specs.inner.Computed.{checkAnswer, loadAnswer};
+ghost use Rattle.checker.specs.inner.Computed.{afterWriting, writingAnswer};
 
 // "The program lends room 4,096 and a trace buffer of as many bytes."
 const ROOM: usize = 4096;
@@ -91,6 +97,39 @@ pub fn load_file(bytes: &[u8], out: &mut [u8]) -> usize
             let table = read.table;
             let ran = load::run(table, LOAD_START, LOAD_TICKS);
             report::totals::write(ran, table.count, out)
+        }
+    }
+}
+
+// The written table, or its refused line.
+fn write_table(table: Table, out: &mut [u8; MOST_BYTES]) -> usize
+    requires { ⌜ tableValid table ≡ true ⌝ }
+    ensures { λ r. ⌜ r ≡ length (afterWriting Accepted table) ⌝ }
+    ensures { λ _. ⌜ now (out .exit) ≡ written (afterWriting Accepted table) (now (out .entry)) ⌝ }
+{
+    let call = report::file::write(table, out);
+    let outcome = call.outcome;
+    match outcome {
+        Outcome::Refused(refusal) => report::write_refused(refusal, out),
+        Outcome::Accepted => call.length,
+    }
+}
+
+// Reads the file, writes its table from the front of `out` as a file of version 0001, in one way, and
+// answers the file's length. A file that is refused, and a table that is too long to be written,
+// give their refused line instead. `out` is as long as a file can be, so 24 never comes up.
+pub fn write_file(bytes: &[u8], out: &mut [u8; MOST_BYTES]) -> usize
+    ensures { λ r. ⌜ r ≡ length (writingAnswer (now (bytes .entry))) ⌝ }
+    ensures { λ _. ⌜ now (out .exit)
+        ≡ written (writingAnswer (now (bytes .entry))) (now (out .entry)) ⌝ }
+{
+    let read = reader::read(bytes);
+    let outcome = read.outcome;
+    match outcome {
+        Outcome::Refused(refusal) => report::write_refused(refusal, out),
+        Outcome::Accepted => {
+            let table = read.table;
+            write_table(table, out)
         }
     }
 }

@@ -2,3 +2,4 @@
 pub mod Doomed
 pub mod Program
 pub mod Load
+pub mod Canonical

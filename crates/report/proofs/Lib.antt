@@ -10,3 +10,7 @@ pub mod TotalsLengths
 pub mod Listing
 pub mod Injective
 pub mod TotalsText
+pub mod Pieces
+pub mod Literals
+pub mod Fields
+pub mod Answers

@@ -45,6 +45,9 @@ module _ {at : ℕ} {xs buffer : List ℕ} {next : ℕ} {between : List ℕ}
   countable-after ys c =
       record { low = omega (arith, first .next-is, rw length-append at (c .low)) }
 
+  pub puts-length : length between ≡ length buffer
+  puts-length = ap length (first .bytes-are) ∙ length-sets buffer at xs
+
 pub countable-front : (at : ℕ) (xs ys : List ℕ) → Countable at (xs ++ ys) → Countable at xs
 countable-front at xs ys c = record { low = omega (arith, rw length-append at (c .low)) }
 

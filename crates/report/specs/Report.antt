@@ -21,6 +21,10 @@ heading = bytes "PNP report"
 abbrev pub refusedLine : ℕ → ℕ → List ℕ
 refusedLine number line = bytes "refused " ++ decimal number ++ bytes " line " ++ decimal line
 
+-- Document 02, asks 5 and 6: "A refused table prints its refused line alone."
+abbrev pub refusedText : ℕ → ℕ → List ℕ
+refusedText number line = ended (refusedLine number line ∷ [])
+
 -- "The `rules` line has the number of rows, the `configurations` line the count."
 abbrev pub sizeLines : ℕ → ℕ → List (List ℕ)
 sizeLines rows count =

@@ -1,5 +1,6 @@
 // The report, to the byte, of what is found of a table. specs/Report.antt says what is right, for
 // all that can be found and every lent buffer.
+pub mod file;
 mod put;
 pub mod totals;
 
@@ -19,7 +20,7 @@ ghost use Rattle.verdict.specs.Buffer.{written};
 ghost use Rattle.report.specs.inner.Puts.{Puts, Countable};
 ghost use Rattle.report.specs.Report.{refusedLine, sizeLines, tickLine, tickLines};
 ghost use Rattle.report.specs.Report.{trapLines, rowNumbers, spacedOrDash, listLines};
-ghost use Rattle.report.specs.Report.{reportBytes};
+ghost use Rattle.report.specs.Report.{refusedText, reportBytes};
 
 // A word, a number and the line's end.
 fn numbered(out: &mut [u8], at: usize, word: &[u8], n: u16) -> usize
@@ -83,6 +84,16 @@ pub(crate) fn refused(out: &mut [u8], at: usize, refusal: Refusal) -> usize
     let number = put::word(out, at, b"refused ");
     let word = put::decimal(out, number, refusal.number as u32);
     numbered(out, word, b" line ", refusal.line as u16)
+}
+
+// Writes a refused line by itself from the buffer's front, and answers its length. An `out` that is
+// shorter holds as much as it takes; the rest of a longer one is unchanged.
+pub fn write_refused(refusal: Refusal, out: &mut [u8]) -> usize
+    ensures { λ r. ⌜ r ≡ length (refusedText (refusal .number) (refusal .line)) ⌝ }
+    ensures { λ _. ⌜ now (out .exit)
+        ≡ written (refusedText (refusal .number) (refusal .line)) (now (out .entry)) ⌝ }
+{
+    refused(out, 0, refusal)
 }
 
 fn sized(out: &mut [u8], at: usize, rows: u8, summary: Summary) -> usize

@@ -1,6 +1,11 @@
--- The report of a file and its totals, computed: `RightReport` and `RightLoad` describe them.
+-- The report of a file, its totals, and its table written again, computed: `RightReport`,
+-- `RightLoad` and `RightWriting` describe them.
 use Prim.Native.Nat.{ℕ}
+use mathlib.Core.Bool.{cond}
 use mathlib.Core.List.{List}
+use lib.Dec.{ltb}
+use lib.ListN.{length}
+use Rattle.table.specs.Limits.{mostBytes}
 use Rattle.table.specs.declared.Outcome.{Outcome}
 use Rattle.table.specs.declared.Outcome.the-variants.{Accepted, Refused}
 use Rattle.table.specs.declared.Table.{Table}
@@ -9,8 +14,9 @@ use Rattle.verdict.specs.declared.Found.the-variants.{Refused as FoundRefused}
 use Rattle.search.specs.Lent.{Lent}
 use Rattle.search.specs.inner.Computed.{searchAnswer}
 use Rattle.load.specs.Load.{notRun, runAnswer}
-use Rattle.report.specs.Report.{reportBytes}
+use Rattle.report.specs.Report.{refusedText, reportBytes}
 use Rattle.report.specs.Totals.{runBytes}
+use Rattle.report.specs.File.{fileText}
 use Rattle.checker.specs.FileLoad.{loadStart, loadTicks}
 use Rattle.checker.specs.FileReport.{FileReport, Call, callOf}
 
@@ -42,3 +48,14 @@ afterLoading Accepted table = runBytes (table .count) (runAnswer table loadStart
 unfoldable pub loadAnswer : List ℕ → List ℕ
 loadAnswer bytes =
     let reading = readAnswer bytes in afterLoading (reading .outcome) (reading .table)
+
+-- `writetable` "reads a table .. and prints the written file. A refused one prints its refused line
+-- alone".
+abbrev pub afterWriting : Outcome → Table → List ℕ
+afterWriting (Refused refusal) table = refusedText (refusal .number) (refusal .line)
+afterWriting Accepted table =
+    cond (ltb mostBytes (length (fileText table))) (refusedText 23 0) (fileText table)
+
+unfoldable pub writingAnswer : List ℕ → List ℕ
+writingAnswer bytes =
+    let reading = readAnswer bytes in afterWriting (reading .outcome) (reading .table)

@@ -1,0 +1,27 @@
+-- `file::put_literal` meets its contract: the name alone, or `!` and the name. Assumes nothing.
+use borrow.Author.Needs.{needs}
+use native.Mathlib.Omega.{arith}
+use Rattle.report.proofs.Puts.{puts-append}
+use Rattle.report.proofs.file.put_literal.Statement.{statement}
+use Rattle.report.proofs.file.put_literal.Tie as tie
+
+returns : tie.Need-returns
+returns c =
+    let name = c .before .before in
+    rw (name .before .before .if1 .taken)
+    (name .put-name .ensures .0, omega (arith, name .put-name .ensures .1))
+
+returns-2 : tie.Need-returns-2
+returns-2 c =
+    let name = c .before .before in
+    let sign = name .before .before .before .before in
+    rw (sign .before .before .if1 .left) (
+      puts-append (sign .byte .ensures) (name .put-name2 .ensures .0),
+      omega (arith, sign .byte .ensures .next-is, name .put-name2 .ensures .1),
+    )
+
+pub put-literal-spec : {M : Type 1} → statement M
+put-literal-spec =
+    tie.close (tie.spec
+    (λ c κs. search needs) (λ c. search needs) returns (λ c κs. search needs)
+    (λ c κs. search needs) (λ c. search needs) returns-2)

@@ -1,0 +1,96 @@
+-- `file::write` meets its contract: the file put into no buffer gives its length, by which the
+-- answer is found; then it is put into the lent one. Assumes nothing.
+use Prim.Native.Nat.{ℕ}
+use borrow.Author.Needs.{needs}
+use borrow.Author.Tests.{not-true, not-false}
+use native.Mathlib.Omega.{arith}
+use mathlib.Core.Bool.{true}
+use mathlib.Core.List.{List}
+use mathlib.Core.Path.{_≡_, sym, _∙_}
+use lib.ListN.{length}
+use Rattle.table.specs.Valid.{tableValid}
+use Rattle.table.specs.declared.Outcome.the-variants.{Accepted}
+use Rattle.table.specs.declared.Table.{Table}
+use Rattle.table.proofs.Laws.{tableValid-signals}
+use Rattle.report.specs.declared.file.Written.{Written}
+use Rattle.report.specs.inner.Writing.{Named, notWritten}
+use Rattle.report.specs.File.{fileText, WriteCall, unwritten}
+use Rattle.report.proofs.Answers.{turned-down, too-long, too-short, all-written}
+use Rattle.report.proofs.Puts.{puts-written, puts-length}
+use Rattle.report.proofs.file.write.Statement.{statement}
+use Rattle.report.proofs.file.write.Tie as tie
+
+-- A call that answers a number, and one that writes.
+refused-call : {r : Written} {number : ℕ} {buffer : List ℕ} {answer : WriteCall}
+    → r ≡ notWritten number → answer ≡ unwritten number buffer
+    → _≡_ {A = WriteCall} (record {
+      outcome = r .outcome;
+      length = r .length;
+      buffer = buffer;
+    }) answer
+refused-call e a = rw (e, a)
+
+written-call : {n m : ℕ} {one other : List ℕ} {answer : WriteCall} → n ≡ m → one ≡ other
+    → answer ≡ record { outcome = Accepted; length = m; buffer = other }
+    → _≡_ {A = WriteCall} (record { outcome = Accepted; length = n; buffer = one }) answer
+written-call e f a = rw (e, f, a)
+
+signals-named : (table : Table) → tableValid table ≡ true → Named (table .signals)
+signals-named table passes =
+    let few = tableValid-signals table passes in record { some = few .0; few = few .1 }
+
+-- The places of the function: the test of 17, and the file put into no buffer.
+abbrev tested : tie.After-none2 → tie.Else1
+tested c = c .before .before .before
+
+passes : (c : tie.Else1) → tableValid (c .before .before .before .args .table) ≡ true
+passes c = sym (c .before .valid .ensures) ∙ not-false _ (c .if1 .left)
+
+long : (c : tie.After-none2)
+    → c .before .put-file .result
+    ≡ length (fileText (tested c .before .before .before .args .table))
+long c = puts-written (c .before .put-file .ensures) .0
+
+returns : tie.Need-returns
+returns c =
+    let test = c .before in
+    refused-call (c .refused .ensures)
+    (turned-down _ _ (sym (test .before .valid .ensures) ∙ not-true _ (test .if1 .taken)))
+
+put-file-requires : tie.Need-put-file-requires
+put-file-requires c κs = signals-named _ (passes (c .before))
+
+returns-2 : tie.Need-returns-2
+returns-2 c =
+    let test = c .before in
+    let put = test .before in
+    refused-call (c .refused2 .ensures)
+    (too-long _ _ (passes (tested put)) (omega (arith, test .if2 .taken, long put)))
+
+returns-3 : tie.Need-returns-3
+returns-3 c =
+    let test = c .before in
+    let put = test .before .before in
+    refused-call (c .refused3 .ensures)
+    (too-short _ _ (passes (tested put)) (omega (arith, test .before .if2 .left, long put))
+    (omega (arith, test .if3 .taken, long put)))
+
+put-file-requires-2 : tie.Need-put-file-requires-2
+put-file-requires-2 c κs = signals-named _ (passes (tested (c .before .before .before)))
+
+returns-4 : tie.Need-returns-4
+returns-4 c =
+    let last = c .before .before in
+    let test = last .before .before in
+    let put = test .before .before in
+    let args = tested put .before .before .before .args in
+    written-call (long put) (puts-written (last .put-file2 .ensures) .1)
+    (all-written (args .table) (args .out .now) (passes (tested put))
+    (omega (arith, test .before .if2 .left, long put)) (omega (arith, test .if3 .left, long put)))
+
+pub write-spec : {M : Type 1} → statement M
+write-spec =
+    tie.close (tie.spec
+    (λ c κs. search needs) (λ c κs. search needs) returns (λ c. search needs) put-file-requires
+    (λ c κs. search needs) returns-2 (λ c κs. search needs) returns-3 put-file-requires-2
+    (λ c. puts-length (c .before .before .put-file2 .ensures)) returns-4)
