@@ -8,3 +8,6 @@ pub mod Bits
 pub mod Sets
 pub mod Lowest
 pub mod Members
+-- Alike: two letters that agree at each signal. Described: what the members of a set are.
+pub mod Alike
+pub mod Described

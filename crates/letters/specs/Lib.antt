@@ -3,3 +3,4 @@
 pub mod Lists
 pub mod Letter
 pub mod inner
+pub mod further

@@ -1,11 +1,11 @@
 -- The text of a condition, described: nothing is computed.
 use Prim.Native.Nat.{ℕ, _<_}
 use mathlib.Core.Bool.{true, false}
-use mathlib.Core.List.{List, [], _∷_, List·Memᴰ}
-use mathlib.Core.Logic.{_↔_}
+use mathlib.Core.List.{List, [], _∷_}
 use mathlib.Core.Path.{_≡_}
 use lib.ListN.{length, getD}
 use Rattle.letters.specs.Letter.{letters, inSet, signalOn}
+use Rattle.letters.specs.further.Described.{LettersOf}
 use Rattle.table.specs.declared.Name.{Name}
 use Rattle.text.specs.Bytes.{bytes}
 use Rattle.text.specs.Lines.{joined}
@@ -13,16 +13,6 @@ use Rattle.text.specs.Words.{orSign, andSign, notSign}
 use Rattle.header.specs.Header.{noName}
 use Rattle.reader.specs.Grammar.{Each}
 use Rattle.report.specs.File.{nameText}
-
--- "Each letter that satisfies it, smallest first."
-pub data Rising : List ℕ → Type 0 where
-  none : Rising []
-  one : {l : ℕ} → Rising (l ∷ [])
-  more : {l m : ℕ} {others : List ℕ} → l < m → Rising (m ∷ others) → Rising (l ∷ m ∷ others)
-
-pub record LettersOf (s set : ℕ) (held : List ℕ) : Type 0 where
-  pub rising : Rising held
-  pub exactly : (l : ℕ) → List·Memᴰ l held ↔ ((l < letters s) × (inSet set l ≡ true))
 
 -- "A term joins every signal in file order by `&`, with `!` where it is false."
 pub record IsTerm (names : List Name) (letter : ℕ) (xs : List ℕ) : Type 0 where

@@ -1,0 +1,2 @@
+-- What only the further promises speak of.
+pub mod Described
