@@ -16,6 +16,7 @@ pub mod WatchLaws
 pub mod WatchCalls
 pub mod LoadLaws
 pub mod LoadTexts
+pub mod ConditionTexts
 pub mod VerdictMeaning
 pub mod Answers
 pub mod SearchLaws
