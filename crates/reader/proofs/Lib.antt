@@ -6,9 +6,12 @@ pub mod Gathering
 pub mod Only
 pub mod Found
 pub mod Accepted
--- `Valid`: number 17 lets each table by. `Witness`: a table that it lets by is some file's, sets
--- apart, with its names by `PlainNames` and its lines by `PlainRows`.
+-- `Valid`: number 17 lets each table by. `RowLines` and `Files`: the file of a table value that it
+-- lets by, with its names by `PlainNames`, and any lines that are rows. `Witness`: such a value is
+-- some file's, sets apart, with its lines by `PlainRows`.
 pub mod Valid
 pub mod PlainNames
+pub mod RowLines
+pub mod Files
 pub mod PlainRows
 pub mod Witness

@@ -23,7 +23,7 @@ use Rattle.header.specs.Header.{noName}
 abbrev pub wordOf : Name → List ℕ
 wordOf name = take (nameRun (name .chars)) (name .chars)
 
-zeros-after : (xs : List ℕ) (r : ℕ) → every isZero (drop r xs) ≡ true
+pub zeros-after : (xs : List ℕ) (r : ℕ) → every isZero (drop r xs) ≡ true
     → drop r xs ≡ drop r (replicate (length xs) 0)
 unfolding every
 zeros-after [] zero h = refl

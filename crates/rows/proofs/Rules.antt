@@ -14,6 +14,7 @@ use lib.ListN.{length-take, length-drop}
 use lib.Seq.{drop-cons}
 use Rattle.letters.specs.Lists.{some, sameBytes}
 use Rattle.letters.proofs.Lists.{and-left, and-right, sameBytes-true}
+use Rattle.table.specs.Limits.{conditions}
 use Rattle.table.specs.declared.Name.{Name}
 use Rattle.table.specs.declared.Row.{Row}
 use Rattle.text.specs.Lines.{LF, comma, joined, count}
@@ -100,14 +101,19 @@ values-row : (values : List ℕ) → length values ≡ 12 → rowValues (rowOf v
 unfolding placesFrom
 values-row values twelve = sym (places-all values 0 12 twelve)
 
+pub six-places : (sets : List ℕ) → length sets ≡ conditions
+    → sets ≡ getD sets 0 0 ∷ getD sets 1 0 ∷ getD sets 2 0 ∷ getD sets 3 0 ∷ getD sets 4 0
+    ∷ getD sets 5 0 ∷ []
+unfolding placesFrom
+six-places sets six = places-all sets 0 6 (omega arith)
+
 abbrev withSets : Row → List ℕ → Row
 withSets row sets = rowFrom sets (boundsOf row)
 
 row-values : (row : Row) → length (rowValues row) ≡ 12 → rowOf (rowValues row) ≡ row
-unfolding placesFrom
 row-values row twelve =
     let parts = simp (length-append, length-take, length-drop) at twelve in
-    let six = places-all (row .sets) 0 6 (omega arith) in
+    let six = six-places (row .sets) (omega arith) in
     ap (λ (sets : List ℕ). rowOf (rowValues (withSets row sets))) six
     ∙ ap (withSets row) (sym six)
 

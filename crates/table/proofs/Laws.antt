@@ -130,3 +130,6 @@ module _ (t : Table) (fits : tableValid t ≡ true) where
 
   pub tableValid-signals : (1 ≤ t .signals) × (t .signals ≤ mostSignals)
   tableValid-signals = rowsValid-signals (t .signals) (rowsOf t) tableValid-rows
+
+  pub tableValid-unused : every rowUnused (drop (t .count) (t .rows)) ≡ true
+  tableValid-unused = tableValid-parts .3

@@ -1,6 +1,6 @@
 -- Lines and pieces put together again: `ended` against `lines`, `joined` against `split`.
 -- Assumes nothing.
-use Prim.Native.Nat.{ℕ, suc, _+_, _-_, _<_, _≤_}
+use Prim.Native.Nat.{ℕ, suc, _+_, _*_, _-_, _<_, _≤_}
 use borrow.Author.Tests.{eqb-true}
 use native.Mathlib.Numerals.{unary-clauses}
 use native.Mathlib.Omega.{arith}
@@ -12,7 +12,7 @@ use lib.ListN.{length, getD, length-append}
 use lib.Seq.{getD-append-seam, getD-append-add}
 use Rattle.letters.specs.Lists.{every}
 use Rattle.letters.proofs.Lists.{and-left, and-right}
-use Rattle.text.specs.Lines.{LF, ended, joined, count, none, and, Free}
+use Rattle.text.specs.Lines.{LF, ended, joined, count, All, none, and, Free}
 use Rattle.text.specs.inner.Cut.{prefixed, lines, longer, split, front, after}
 use Rattle.text.proofs.Splits.{count-append, split-length, split-front, split-append}
 use Rattle.text.proofs.Splits.{front-append, after-append}
@@ -158,3 +158,13 @@ passing-free test b e (x ∷ xs) h =
         absurd (true≢false (sym (and-left (test x) (every test xs) h)
         ∙ ap test (eqb-true x b same) ∙ e))
     go false other rest = rest
+
+-- Pieces of few bytes, joined.
+pub joined-length : (b k : ℕ) (pieces : List (List ℕ)) → All (λ piece. length piece ≤ k) pieces
+    → length (joined b pieces) ≤ suc k * length pieces
+unfolding joined
+joined-length b k [] short = omega arith
+joined-length b k (piece ∷ []) (and h short) = omega arith
+joined-length b k (piece ∷ next ∷ more) (and h short) =
+    let rest = joined-length b k (next ∷ more) short in
+    rw length-append (omega arith)
