@@ -11,12 +11,15 @@ pub mod Happening
 pub mod Searching
 pub mod Reporting
 pub mod Loading
+pub mod Writing
 pub mod Cases
 pub mod WatchLaws
 pub mod WatchCalls
 pub mod LoadLaws
 pub mod LoadTexts
 pub mod ConditionTexts
+pub mod FileTexts
+pub mod WriteTexts
 pub mod VerdictMeaning
 pub mod Answers
 pub mod SearchLaws
@@ -32,4 +35,5 @@ pub mod Reported
 pub mod Starred
 pub mod WholeReport
 pub mod LoadCases
+pub mod WriteCases
 pub mod Instances

@@ -3,3 +3,4 @@
 pub mod Cases
 pub mod Texts
 pub mod Loads
+pub mod Written

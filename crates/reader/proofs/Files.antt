@@ -58,7 +58,7 @@ row-unused row six h =
     })
 
 -- Rows in a list, of six sets each.
-abbrev Six : List Row → Type 0
+abbrev pub Six : List Row → Type 0
 Six rows = (i : ℕ) → i < length rows → length (getD rows i noRow .sets) ≡ conditions
 
 rows-unused : (rows : List Row) → Six rows → every rowUnused rows ≡ true

@@ -1,0 +1,202 @@
+-- The file of a table value: each line is the row that it was written from, so the file's table is
+-- the value, where the file is not too long. And the table of a file has the sizes of the machine's.
+-- Assumes nothing.
+use Prim.Native.Nat.{ℕ, zero, suc, _+_, _-_, _^_, _<_, _≤_, min}
+use native.Mathlib.Decide.{decLt}
+use native.Mathlib.Omega.{arith}
+use mathlib.Core.Bool.{true, _&&_}
+use mathlib.Core.List.{List, [], _∷_, _++_, map}
+use mathlib.Core.Logic.{_↔_}
+use mathlib.Core.Path.{_≡_, refl, sym, ap, ap₂, subst, _∙_}
+use lib.ListN.{length, getD, take, drop, replicate, length-append, length-map, length-replicate}
+use lib.ListN.{List·getD-append, getD-replicate}
+use lib.Pow.{pow-mono}
+use lib.Seq.{length-take-le, getD-append-add}
+use Rattle.letters.specs.Letter.{letters, width, setBits, setValid}
+use Rattle.letters.specs.Lists.{every}
+use Rattle.letters.proofs.Lists.{and-left, and-right, and-four}
+use Rattle.letters.proofs.Padding.{padded-length, padded-at, padded-beyond}
+use Rattle.table.specs.Limits.{mostBytes, mostSignals, mostRows, nameLength, conditions}
+use Rattle.table.specs.Row.{boundsValid, noRow, rowValid}
+use Rattle.table.specs.Valid.{rowsOf}
+use Rattle.table.specs.declared.Name.{Name}
+use Rattle.table.specs.declared.Row.{Row}
+use Rattle.table.specs.declared.Table.{Table}
+use Rattle.table.proofs.Laws.{rowValid-bounds, tableValid-signals}
+use Rattle.text.specs.Lines.{joined, comma, All, none as all-none, and as all-and}
+use Rattle.text.specs.Words.{ruleWord}
+use Rattle.conditions.specs.Condition.{nameOf}
+use Rattle.conditions.specs.Judge.{IsCondition}
+use Rattle.header.specs.Header.{noName, namesFrom}
+use Rattle.rows.specs.Row.{fieldKinds, IsRow}
+use Rattle.rows.proofs.Rules.{row-same, six-places}
+use Rattle.reader.specs.Grammar.{Each, none, and, AreRows, IsFile}
+use Rattle.reader.specs.Reading.{zeroRow, tableFrom}
+use Rattle.reader.specs.further.Witness.{Sized}
+use Rattle.reader.proofs.Files as Files
+use Rattle.reader.proofs.Files.{Six}
+use Rattle.reader.proofs.RowLines.{textsOf, rowLine, line-row}
+use Rattle.report.specs.File.{nameText, conditionText, rowText, usedNames, fileText}
+use Rattle.demands.specs.Writing.{Writable, SameTable}
+use Rattle.demands.proofs.ConditionTexts.{condition-right}
+
+-- A row's line is the one that the reader's laws speak of.
+line-same : (names : List Name) (s : ℕ) (row : Row) → length (row .sets) ≡ conditions
+    → rowLine (conditionText names s) row ≡ rowText names s row
+unfolding textsOf
+line-same names s row six =
+    ap (λ (sets : List ℕ). ruleWord ++ joined comma (textsOf (conditionText names s) fieldKinds
+    (take 3 sets ++ (row .tmin ∷ row .tmax ∷ row .lmin ∷ row .lmax ∷ [])
+    ++ drop 3 sets ++ (row .amin ∷ row .amax ∷ []))))
+    (six-places (row .sets) six)
+
+width-full : (s : ℕ) → s ≤ mostSignals → width s ≡ letters s
+width-full s few = omega (arith, pow-mono {i = s} {j = mostSignals} few)
+
+module _ (table : Table) (w : Writable table) where
+  abbrev s : ℕ
+  s = table .signals
+
+  abbrev used : List Name
+  used = usedNames table
+
+  used-length : length used ≡ s
+  used-length =
+      sym (length-map used nameText) ∙ Files.words-length table (w .sized) (w .passes)
+
+  pub written-condition : (set : ℕ) → setValid s set ≡ true
+      → IsCondition used (width s) (conditionText used s set) set
+  written-condition set fits =
+      let counts = tableValid-signals table (w .passes) in
+      rw (width-full s (counts .1))
+      (subst (λ (k : ℕ). IsCondition used (letters k) (conditionText used k set) set) used-length
+      (condition-right used (Files.words-are table (w .sized) (w .passes))
+      (Files.words-known table (w .sized) (w .passes))
+      (Files.names-apart table (w .sized) (w .passes))
+      (omega (arith, used-length, counts .0)) set (rw used-length fits)))
+
+  sets-mean : (sets : List ℕ) → every (setValid s) sets ≡ true
+      → All (λ set. IsCondition used (width s) (conditionText used s set) set) sets
+  unfolding every
+  sets-mean [] h = all-none
+  sets-mean (set ∷ sets) h =
+      all-and (written-condition set (and-left (setValid s set) (every (setValid s) sets) h))
+      (sets-mean sets (and-right (setValid s set) (every (setValid s) sets) h))
+
+  written-row : (row : Row) → length (row .sets) ≡ conditions → rowValid s row ≡ true
+      → IsRow used (width s) (rowText used s row) row
+  unfolding rowValid
+  written-row row six h =
+      let sets = and-right (boundsValid (row .tmin) (row .tmax)
+      && boundsValid (row .lmin) (row .lmax) && boundsValid (row .amin) (row .amax))
+      (every (setValid s) (row .sets)) h in
+      subst (λ (line : List ℕ). IsRow used (width s) line row) (line-same used s row six)
+      (line-row (conditionText used s) used (width s) row six (sets-mean (row .sets) sets)
+      (rowValid-bounds s row h))
+
+  written-rows : (rows : List Row) → Six rows → every (rowValid s) rows ≡ true
+      → Each (IsRow used (width s)) (map (rowText used s) rows) rows
+  unfolding every
+  written-rows [] six h = none
+  written-rows (row ∷ rows) six h =
+      and (written-row row (six 0 (omega arith))
+      (and-left (rowValid s row) (every (rowValid s) rows) h))
+      (written-rows rows (λ i low. six (suc i) (omega arith))
+      (and-right (rowValid s row) (every (rowValid s) rows) h))
+
+  rows-are : AreRows (map nameText used) (map (rowText used s) (rowsOf table)) (rowsOf table)
+  rows-are =
+      rw (
+        Files.words-known table (w .sized) (w .passes),
+        Files.words-length table (w .sized) (w .passes),
+      )
+      (written-rows (rowsOf table) (Files.rows-six table (w .sized) (w .passes))
+      (Files.rows-valid table (w .sized) (w .passes)))
+
+  pub written-file : IsFile (fileText table) table ↔ (length (fileText table) ≤ mostBytes)
+  unfolding fileText
+  written-file = (
+    λ f. f .header .has-names .lines .few,
+    λ few. subst (IsFile (fileText table)) (Files.table-same table (w .sized) (w .passes))
+        (Files.file-is table (w .sized) (w .passes) rows-are
+        (Files.rows-counted table (w .sized) (w .passes)) few),
+  )
+
+-- A table value has no other parts than its names and rows.
+pub same-parts : {one other : Table} → Writable one → Writable other → SameTable one other
+    → one ≡ other
+same-parts {one} {other} w v same =
+    sym (Files.table-same one (w .sized) (w .passes))
+    ∙ ap₂ (λ (names : List Name) (rows : List Row). let words = map nameText names in
+    tableFrom (length words) (namesFrom words) rows) (same .names) (same .rows)
+    ∙ Files.table-same other (v .sized) (v .passes)
+
+pub parts-same : {one other : Table} → one ≡ other → SameTable one other
+parts-same e = record {
+  signals = ap (λ (t : Table). t .signals) e;
+  names = ap usedNames e;
+  count = ap (λ (t : Table). t .count) e;
+  rows = ap rowsOf e;
+}
+
+-- The sizes of a table that was read.
+name-places : (w : List ℕ) → length (nameOf w .chars) ≡ nameLength
+unfolding nameOf
+name-places w =
+    length-take-le nameLength (w ++ replicate nameLength 0)
+    (rw length-append (omega (arith, length-replicate {A = ℕ} nameLength 0)))
+
+rows-six : {names : List Name} {n : ℕ} {rules : List (List ℕ)} {rows : List Row}
+    → Each (IsRow names n) rules rows → Six rows
+rows-six none i low = absurd (omega arith)
+rows-six {names} {n} (and {a} {b} h more) zero low =
+    sym (ap (λ (r : Row). length (r .sets)) (row-same names n a b (h .has)))
+rows-six (and h more) (suc i) low = rows-six more i (omega arith)
+
+module _ (bytes : List ℕ) (t : Table) (f : IsFile bytes t) where
+  abbrev names : List (List ℕ)
+  names = f .names
+
+  abbrev rows : List Row
+  rows = f .rows
+
+  abbrev free : List Row
+  free = replicate (mostRows - length rows) zeroRow
+
+  chars-eight : (i : ℕ) → length (getD (namesFrom names) i noName .chars) ≡ nameLength
+  chars-eight i = go (decLt i (length names))
+    where
+      go : Dec (i < length names) → length (getD (namesFrom names) i noName .chars) ≡ nameLength
+      go (yes low) =
+          rw (padded-at nameOf noName mostSignals names [] i low) (name-places (getD names i []))
+      go (no high) = rw (padded-beyond nameOf noName mostSignals names i (omega arith))
+
+  sets-six : (i : ℕ) → i < mostRows → length (getD (rows ++ free) i noRow .sets) ≡ conditions
+  sets-six i few = go (decLt i (length rows))
+    where
+      go : Dec (i < length rows) → length (getD (rows ++ free) i noRow .sets) ≡ conditions
+      go (yes low) = rw (List·getD-append rows free noRow i low) (rows-six (f .rows-are) i low)
+      go (no high) =
+          let k = i - length rows in
+          let e : i ≡ length rows + k = omega arith in
+          ap (λ (j : ℕ). length (getD (rows ++ free) j noRow .sets)) e
+          ∙ rw (
+            getD-append-add rows free k noRow,
+            getD-replicate (mostRows - length rows) k zeroRow noRow (omega arith),
+          )
+
+  pub file-sized : Sized t
+  file-sized = record {
+    names = ap (λ (t : Table). length (t .names)) (f .table-is)
+        ∙ padded-length nameOf noName mostSignals names (f .header .few);
+    chars = λ i low. ap (λ (t : Table). length (getD (t .names) i noName .chars)) (f .table-is)
+        ∙ chars-eight i;
+    rows = ap (λ (t : Table). length (t .rows)) (f .table-is)
+        ∙ rw length-append (omega (
+          arith,
+          f .rows-few,
+          length-replicate {A = Row} (mostRows - length rows) zeroRow,
+        ));
+    sets = λ i low. ap (λ (t : Table). length (getD (t .rows) i noRow .sets)) (f .table-is)
+        ∙ sets-six i low;
+  }

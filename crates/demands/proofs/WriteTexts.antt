@@ -1,0 +1,233 @@
+-- What a call of the writer answers and leaves, by its cases; and what `writetable` prints of a
+-- file: `RightWriting`, and nothing else. Assumes nothing.
+use Prim.Native.Nat.{ℕ, suc, _<_, _≤_}
+use borrow.Author.Tests.{lt-ltb, le-ltb}
+use native.Mathlib.Decide.{decLe, decLt}
+use native.Mathlib.Omega.{arith}
+use mathlib.Core.Bool.{Bool, true, false}
+use mathlib.Core.List.{List, [], _∷_}
+use mathlib.Core.Logic.{_⊎_, inl, inr, _↔_}
+use mathlib.Core.Path.{_≡_, refl, sym, ap, subst, _∙_}
+use lib.ListN.{length, take, drop}
+use lib.Seq.{length-take-le, take-all, drop-append-seam}
+use Rattle.table.specs.Limits.{mostBytes}
+use Rattle.table.specs.Valid.{tableValid}
+use Rattle.table.specs.further.Numbers.{numberOf}
+use Rattle.table.specs.declared.Outcome.the-variants.{Accepted}
+use Rattle.table.specs.declared.Table.{Table}
+use Rattle.reader.specs.Grammar.{IsFile}
+use Rattle.reader.specs.Right.{RightReading, is2}
+use Rattle.reader.specs.inner.File.{readAnswer}
+use Rattle.reader.proofs.Accepted.{Decided, taken, turned, read-decided, file-accepted}
+use Rattle.reader.proofs.Found.{read-answered}
+use Rattle.reader.proofs.Only.{read-only}
+use Rattle.verdict.specs.Buffer.{written}
+use Rattle.verdict.proofs.Buffer.{written-fits, written-front}
+use Rattle.report.specs.File.{fileText, WriteCall, unwritten, writeAnswer}
+use Rattle.checker.specs.inner.Computed.{afterWriting, writingAnswer}
+use Rattle.demands.specs.Writing.{IsWritten, RightWriting}
+use Rattle.demands.specs.Writing.RightWriting.{refused, tooLong, written as printed}
+use Rattle.demands.proofs.FileTexts.{written-file}
+
+-- One call, of any table value and any buffer.
+module _ (table : Table) (buffer : List ℕ) where
+  abbrev text : List ℕ
+  text = fileText table
+
+  abbrev pub filled : WriteCall
+  filled = record { outcome = Accepted; length = length text; buffer = written text buffer }
+
+  -- What holds under each answer.
+  data Case : Type 0 where
+    is17 : tableValid table ≡ false → Case
+    is23 : tableValid table ≡ true → mostBytes < length text → Case
+    is24 : tableValid table ≡ true → length text ≤ mostBytes → length buffer < length text → Case
+    isWritten : tableValid table ≡ true → length text ≤ mostBytes → length text ≤ length buffer
+        → Case
+
+  abbrev answerOf : Case → WriteCall
+  answerOf (is17 fails) = unwritten 17 buffer
+  answerOf (is23 passes long) = unwritten 23 buffer
+  answerOf (is24 passes few short) = unwritten 24 buffer
+  answerOf (isWritten passes few room) = filled
+
+  case-answer : (case : Case) → writeAnswer table buffer ≡ answerOf case
+  unfolding writeAnswer
+  case-answer (is17 fails) = rw fails
+  case-answer (is23 passes long) = rw (passes, lt-ltb mostBytes (length text) long)
+  case-answer (is24 passes few short) =
+      rw (
+        passes,
+        le-ltb mostBytes (length text) few,
+        lt-ltb (length buffer) (length text) short,
+      )
+  case-answer (isWritten passes few room) =
+      rw (
+        passes,
+        le-ltb mostBytes (length text) few,
+        le-ltb (length buffer) (length text) room,
+      )
+
+  case-found : Case
+  case-found =
+      go (tableValid table) refl (decLt mostBytes (length text))
+      (decLt (length buffer) (length text))
+    where
+      go : (t : Bool) → tableValid table ≡ t → Dec (mostBytes < length text)
+          → Dec (length buffer < length text) → Case
+      go false e long short = is17 e
+      go true e (yes long) short = is23 e long
+      go true e (no long) (yes short) = is24 e (omega arith) short
+      go true e (no long) (no short) = isWritten e (omega arith) (omega arith)
+
+  -- The number says which case it is.
+  abbrev number : WriteCall → ℕ
+  number call = numberOf (call .outcome)
+
+  case-number : (call : WriteCall) → writeAnswer table buffer ≡ call
+      → number (answerOf case-found) ≡ number call
+  case-number call e = ap number (sym (case-answer case-found) ∙ e)
+
+  only-17 : (case : Case) → number (answerOf case) ≡ 17 → tableValid table ≡ false
+  only-17 (is17 fails) e = fails
+  only-17 (is23 passes long) e = absurd (omega arith)
+  only-17 (is24 passes few short) e = absurd (omega arith)
+  only-17 (isWritten passes few room) e = absurd (omega arith)
+
+  only-23 : (case : Case) → number (answerOf case) ≡ 23
+      → (tableValid table ≡ true) × (mostBytes < length text)
+  only-23 (is17 fails) e = absurd (omega arith)
+  only-23 (is23 passes long) e = (passes, long)
+  only-23 (is24 passes few short) e = absurd (omega arith)
+  only-23 (isWritten passes few room) e = absurd (omega arith)
+
+  only-24 : (case : Case) → number (answerOf case) ≡ 24
+      → (tableValid table ≡ true) × (length text ≤ mostBytes) × (length buffer < length text)
+  only-24 (is17 fails) e = absurd (omega arith)
+  only-24 (is23 passes long) e = absurd (omega arith)
+  only-24 (is24 passes few short) e = (passes, few, short)
+  only-24 (isWritten passes few room) e = absurd (omega arith)
+
+  only-written : (case : Case) → number (answerOf case) ≡ 0
+      → (tableValid table ≡ true) × (length text ≤ mostBytes) × (length text ≤ length buffer)
+  only-written (is17 fails) e = absurd (omega arith)
+  only-written (is23 passes long) e = absurd (omega arith)
+  only-written (is24 passes few short) e = absurd (omega arith)
+  only-written (isWritten passes few room) e = (passes, few, room)
+
+  pub write-17 : (writeAnswer table buffer ≡ unwritten 17 buffer) ↔ (tableValid table ≡ false)
+  write-17 = (
+    λ e. only-17 case-found (case-number (unwritten 17 buffer) e),
+    λ fails. case-answer (is17 fails),
+  )
+
+  pub write-23 : (writeAnswer table buffer ≡ unwritten 23 buffer)
+      ↔ ((tableValid table ≡ true) × (mostBytes < length text))
+  write-23 = (
+    λ e. only-23 case-found (case-number (unwritten 23 buffer) e),
+    λ h. case-answer (is23 (h .0) (h .1)),
+  )
+
+  pub write-24 : (writeAnswer table buffer ≡ unwritten 24 buffer)
+      ↔ ((tableValid table ≡ true) × (length text ≤ mostBytes) × (length buffer < length text))
+  write-24 = (
+    λ e. only-24 case-found (case-number (unwritten 24 buffer) e),
+    λ h. case-answer (is24 (h .0) (h .1) (h .2)),
+  )
+
+  pub written-exactly : (writeAnswer table buffer ≡ filled)
+      ↔ ((tableValid table ≡ true) × (length text ≤ mostBytes) × (length text ≤ length buffer))
+  written-exactly = (
+    λ e. only-written case-found (case-number filled e),
+    λ h. case-answer (isWritten (h .0) (h .1) (h .2)),
+  )
+
+  pub write-one-of-four : (writeAnswer table buffer ≡ unwritten 17 buffer)
+      ⊎ ((writeAnswer table buffer ≡ unwritten 23 buffer)
+      ⊎ ((writeAnswer table buffer ≡ unwritten 24 buffer)
+      ⊎ (writeAnswer table buffer ≡ filled)))
+  write-one-of-four = go case-found
+    where
+      go : Case → (writeAnswer table buffer ≡ unwritten 17 buffer)
+          ⊎ ((writeAnswer table buffer ≡ unwritten 23 buffer)
+          ⊎ ((writeAnswer table buffer ≡ unwritten 24 buffer)
+          ⊎ (writeAnswer table buffer ≡ filled)))
+      go (is17 fails) = inl (case-answer (is17 fails))
+      go (is23 passes long) = inr (inl (case-answer (is23 passes long)))
+      go (is24 passes few short) = inr (inr (inl (case-answer (is24 passes few short))))
+      go (isWritten passes few room) = inr (inr (inr (case-answer (isWritten passes few room))))
+
+  -- The lent buffer.
+  pub write-unchanged : (n : ℕ) → numberOf (writeAnswer table buffer .outcome) ≡ suc n
+      → writeAnswer table buffer .buffer ≡ buffer
+  write-unchanged n e =
+      ap (λ (call : WriteCall). call .buffer) (case-answer case-found)
+      ∙ go case-found (case-number (writeAnswer table buffer) refl ∙ e)
+    where
+      go : (case : Case) → number (answerOf case) ≡ suc n → answerOf case .buffer ≡ buffer
+      go (is17 fails) e = refl
+      go (is23 passes long) e = refl
+      go (is24 passes few short) e = refl
+      go (isWritten passes few room) e = absurd (omega arith)
+
+  pub written-behind : writeAnswer table buffer .outcome ≡ Accepted
+      → let call = writeAnswer table buffer in
+      (take (call .length) (call .buffer) ≡ text)
+      × (drop (call .length) (call .buffer) ≡ drop (call .length) buffer)
+  written-behind e =
+      let h = only-written case-found
+      (case-number (writeAnswer table buffer) refl ∙ ap numberOf e) in
+      rw (written-exactly .1 h) (
+        written-front text buffer (h .2),
+        rw (written-fits text buffer (h .2))
+            (drop-append-seam text (drop (length text) buffer)),
+      )
+
+-- From the bytes of a file to the bytes that are printed.
+module _ (bytes : List ℕ) where
+  pub writing-answered : RightWriting bytes (writingAnswer bytes)
+  unfolding writingAnswer
+  writing-answered = go (read-decided bytes)
+    where
+      sorted : (table : Table) → IsFile bytes table → Dec (mostBytes < length (fileText table))
+          → RightWriting bytes (afterWriting Accepted table)
+      sorted table file (yes long) =
+          rw (lt-ltb mostBytes (length (fileText table)) long) (tooLong file long)
+      sorted table file (no long) =
+          let few : length (fileText table) ≤ mostBytes = omega arith in
+          rw (le-ltb mostBytes (length (fileText table)) few) (printed file few)
+
+      go : Decided bytes (readAnswer bytes) → RightWriting bytes (writingAnswer bytes)
+      go (taken table file e) =
+          rw e (sorted table file (decLt mostBytes (length (fileText table))))
+      go (turned number line one small low e) =
+          rw e (refused (subst (RightReading bytes) e (read-answered bytes)))
+
+  pub writing-only : (text : List ℕ) → RightWriting bytes text → writingAnswer bytes ≡ text
+  unfolding writingAnswer
+  writing-only text (refused right) = rw (read-only bytes _ right)
+  writing-only text (tooLong {table = table} file long) =
+      rw (file-accepted bytes table file, lt-ltb mostBytes (length (fileText table)) long)
+  writing-only text (printed {table = table} file few) =
+      rw (file-accepted bytes table file, le-ltb mostBytes (length (fileText table)) few)
+
+-- A written file is printed as it is.
+pub written-again : (table : Table) → IsWritten table
+    → writingAnswer (fileText table) ≡ fileText table
+written-again table w =
+    writing-only (fileText table) (fileText table)
+    (printed (written-file table (w .writable) .1 (w .short)) (w .short))
+
+-- The first bytes of a file that is too long say so.
+pub writing-first-bytes : (bytes : List ℕ)
+    → writingAnswer (take (suc mostBytes) bytes) ≡ writingAnswer bytes
+writing-first-bytes bytes = go (decLe (length bytes) (suc mostBytes))
+  where
+    go : Dec (length bytes ≤ suc mostBytes)
+        → writingAnswer (take (suc mostBytes) bytes) ≡ writingAnswer bytes
+    go (yes h) = ap writingAnswer (take-all (suc mostBytes) bytes h)
+    go (no h) =
+        let long : mostBytes < length bytes = omega arith in
+        let front = length-take-le (suc mostBytes) bytes (omega arith) in
+        writing-only (take (suc mostBytes) bytes) _ (refused (is2 (omega (arith, front))))
+        ∙ sym (writing-only bytes _ (refused (is2 long)))
