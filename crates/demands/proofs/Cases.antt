@@ -10,7 +10,7 @@ use Rattle.reader.specs.Reading.{emptyTable}
 use Rattle.verdict.specs.Found.{refusedFound, soundFound}
 use Rattle.search.specs.Lent.{Lent, roomOf, cleared}
 use Rattle.search.specs.inner.Computed.{searchAnswer}
-use Rattle.checker.specs.inner.Computed.{checkAnswer, loadAnswer}
+use Rattle.checker.specs.inner.Computed.{checkAnswer, loadAnswer, writingAnswer}
 use Rattle.demands.specs.examples.Cases.{P as rowP, Q as rowQ, S as rowS, report, delayed}
 use Rattle.demands.specs.examples.Cases.{isRight, noRows}
 use Rattle.demands.specs.examples.Cases.{ListCaseMeans, listCases, pressedCase}
@@ -20,12 +20,15 @@ use Rattle.demands.specs.examples.Loads.{wholeTotals}
 use Rattle.demands.specs.examples.Texts.{textP, textNotC, textQ, textS, textDelayed}
 use Rattle.demands.specs.examples.Texts.{fileOf, ReadAs}
 use Rattle.demands.specs.examples.Texts.{wholeOutput}
+use Rattle.demands.specs.examples.Written.{TextCaseMeans, textCases, oneRow, rowSent}
+use Rattle.demands.specs.examples.Written.{rowWritten, wholeWritten}
 use Rattle.demands.specs.examples.Cases.Case.{after}
 use Rattle.demands.specs.Searching.{Entered}
 use Rattle.demands.proofs.Starred as Starred
 use Rattle.demands.proofs.Instances as Instances
 use Rattle.demands.proofs.WholeReport as WholeReport
 use Rattle.demands.proofs.LoadCases as LoadCases
+use Rattle.demands.proofs.WriteCases as WriteCases
 
 -- "The starred cases, gathered in a table that one proposition covers, over the definitions."
 pub starred-right : every isRight starred ≡ true
@@ -66,6 +69,18 @@ loads-worked = LoadCases.loads-worked
 
 pub whole-load : loadAnswer (fileOf (textP ∷ textNotC ∷ [])) ≡ wholeTotals
 whole-load = LoadCases.whole-load
+
+-- The writer of document 02, ask 6: the texts of conditions and of a row, and what is printed of the
+-- same input, to the byte.
+pub texts-worked : All TextCaseMeans textCases
+texts-worked = WriteCases.texts-worked
+
+pub row-written : writingAnswer (oneRow rowSent) ≡ oneRow rowWritten
+row-written = WriteCases.row-written
+
+pub whole-written : (writingAnswer (fileOf (textP ∷ textNotC ∷ [])) ≡ wholeWritten)
+    × (length wholeWritten ≡ 169)
+whole-written = WriteCases.whole-written
 
 -- No promise is empty: each other answer of the search has an instance too. "P alone: sound, two
 -- states; room 1 is refused with 20"; the report's table is 21 with no buffer, and the empty table

@@ -1,10 +1,10 @@
 -- The promises, in the words of the demands. This file and the specs are all that has to be
 -- believed. What each function answers, refused or not, is its contract in src/: one equation with
 -- a definition of the specs; here stands what follows of those definitions. More is promised, by
--- subject, in `Reading`, `Watching`, `Happening`, `Searching`, `Reporting`, `Loading` and `Cases`.
--- Assumes nothing.
+-- subject, in `Reading`, `Watching`, `Happening`, `Searching`, `Reporting`, `Loading`, `Writing` and
+-- `Cases`. Assumes nothing.
 use Prim.Native.Nat.{ℕ, suc, _+_, _<_, _≤_}
-use mathlib.Core.Bool.{true}
+use mathlib.Core.Bool.{true, false}
 use mathlib.Core.List.{List}
 use mathlib.Core.Logic.{_⊎_, _↔_}
 use mathlib.Core.Path.{_≡_, ap, _∙_}
@@ -13,6 +13,7 @@ use Rattle.letters.specs.Letter.{letters, bitAt, bit}
 use Rattle.table.specs.Limits.{mostBytes, mostRows}
 use Rattle.table.specs.Row.{noRow}
 use Rattle.table.specs.Valid.{tableValid, rowsValid, rowsOf}
+use Rattle.table.specs.declared.Outcome.the-variants.{Accepted}
 use Rattle.table.specs.declared.Row.{Row}
 use Rattle.table.specs.declared.Table.{Table}
 use Rattle.traces.specs.Trace.{AllBelow, run}
@@ -35,6 +36,7 @@ use Rattle.reader.proofs.Found as ReadingFound
 use Rattle.reader.proofs.Only as ReadingOnly
 use Rattle.load.specs.Load.{loadOf, totalsOf, noTotals, longestRun, runAnswer}
 use Rattle.verdict.specs.declared.RowLists.{RowLists}
+use Rattle.verdict.specs.Buffer.{written}
 use Rattle.verdict.specs.Found.{Verdict, valuesOf, soundFound, trappedFound}
 use Rattle.search.specs.Lent.{Lent, Searched, roomOf, systemOf, traced}
 use Rattle.search.specs.inner.Computed.{searchAnswer}
@@ -44,14 +46,17 @@ use Rattle.demands.specs.Searching.{RightLists}
 use Rattle.demands.specs.Searching.{Entered, RightAnswer, SameLengths, SameScratch}
 use Rattle.demands.specs.Reporting.{RightReport}
 use Rattle.demands.specs.Loading.{RightLoad}
+use Rattle.demands.specs.Writing.{Writable, IsWritten, SameTable, RightWriting}
+use Rattle.report.specs.File.{fileText, unwritten, writeAnswer}
 use Rattle.checker.specs.FileReport.{FileReport}
-use Rattle.checker.specs.inner.Computed.{checkAnswer, loadAnswer}
+use Rattle.checker.specs.inner.Computed.{checkAnswer, loadAnswer, writingAnswer}
 use Rattle.demands.proofs.Reading as Reading
 use Rattle.demands.proofs.Watching as Watching
 use Rattle.demands.proofs.Happening as Happening
 use Rattle.demands.proofs.Searching as Searching
 use Rattle.demands.proofs.Reported as Reported
 use Rattle.demands.proofs.Loading as Loading
+use Rattle.demands.proofs.Writing as Writing
 use Rattle.demands.proofs.WatchLaws as WatchLaws
 use Rattle.demands.proofs.Answers as Answers
 use Rattle.demands.proofs.SearchLaws as SearchLaws
@@ -256,3 +261,68 @@ module _ (table : Table) (start ticks : ℕ) (passes : tableValid table ≡ true
 pub trace-balance : (s : ℕ) (row : Row) (w : List ℕ) → let totals = totalsOf s row w in
     totals .realised ≡ totals .completed + totals .breaks + totals .pending
 trace-balance = Loading.trace-balance
+
+-- Document 02, ask 6: "Write any table value back as a version 0001 file", where it does not
+-- "exceed 4,096 bytes"; "Reading the file yields the table it came from."
+pub written-file : (table : Table) → Writable table
+    → IsFile (fileText table) table ↔ (length (fileText table) ≤ mostBytes)
+written-file = Writing.written-file
+
+pub written-read : (table : Table) → IsWritten table
+    → readAnswer (fileText table) ≡ accepted table
+written-read = Writing.written-read
+
+-- "Two accepted tables that are both written give equal bytes if and only if their names, sets,
+-- bounds and row order are equal": if they are the same table value, which has no other parts;
+module _ (one other : Table) where
+  pub same-bytes : IsWritten one → IsWritten other → fileText one ≡ fileText other → one ≡ other
+  same-bytes = Writing.same-bytes one other
+
+  pub same-written : one ≡ other → fileText one ≡ fileText other
+  same-written = Writing.same-written one other
+
+  pub same-parts : Writable one → Writable other → SameTable one other → one ≡ other
+  same-parts = Writing.same-parts one other
+
+  pub parts-same : one ≡ other → SameTable one other
+  parts-same = Writing.parts-same one other
+
+-- and so for the tables of any two files.
+pub files-alike : (bytes others : List ℕ) (one other : Table) → IsFile bytes one
+    → IsFile others other → length (fileText one) ≤ mostBytes → length (fileText other) ≤ mostBytes
+    → (fileText one ≡ fileText other) ↔ (one ≡ other)
+files-alike = Writing.files-alike
+
+-- "Checks: 23 the file would exceed 4,096 bytes, then 24 the lent buffer is shorter than the file,
+-- both after 17; the buffer is then unchanged. When the file is written, the answer gives its length
+-- and the bytes behind it are unchanged."
+module _ (table : Table) (buffer : List ℕ) where
+  pub write-17 : (writeAnswer table buffer ≡ unwritten 17 buffer) ↔ (tableValid table ≡ false)
+  write-17 = Writing.write-17 table buffer
+
+  pub write-23 : (writeAnswer table buffer ≡ unwritten 23 buffer)
+      ↔ ((tableValid table ≡ true) × (mostBytes < length (fileText table)))
+  write-23 = Writing.write-23 table buffer
+
+  pub write-24 : (writeAnswer table buffer ≡ unwritten 24 buffer)
+      ↔ ((tableValid table ≡ true) × (length (fileText table) ≤ mostBytes)
+      × (length buffer < length (fileText table)))
+  write-24 = Writing.write-24 table buffer
+
+  pub written-exactly : (writeAnswer table buffer ≡ record {
+        outcome = Accepted;
+        length = length (fileText table);
+        buffer = written (fileText table) buffer;
+      })
+      ↔ ((tableValid table ≡ true) × (length (fileText table) ≤ mostBytes)
+      × (length (fileText table) ≤ length buffer))
+  written-exactly = Writing.written-exactly table buffer
+
+-- From the bytes of any file to the bytes that `writetable` prints: one of the three texts of
+-- `RightWriting`, and no other.
+module _ (bytes : List ℕ) where
+  pub writing-answered : RightWriting bytes (writingAnswer bytes)
+  writing-answered = Writing.writing-answered bytes
+
+  pub writing-text-only : (text : List ℕ) → RightWriting bytes text → writingAnswer bytes ≡ text
+  writing-text-only = Writing.writing-text-only bytes

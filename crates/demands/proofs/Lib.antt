@@ -1,9 +1,10 @@
 -- Read `Demands` and the specs: nothing else has to be believed. What is promised besides stands by
--- subject: `Reading`, `Watching`, `Happening`, `Searching`, `Reporting`, `Loading`, `Cases`. Below
--- them are proofs: `WatchLaws`, `WatchCalls`; `LoadLaws`, `LoadTexts`; `VerdictMeaning`, `Answers`,
+-- subject: `Reading`, `Watching`, `Happening`, `Searching`, `Reporting`, `Loading`, `Writing`,
+-- `Cases`. Below them are proofs: `WatchLaws`, `WatchCalls`; `LoadLaws`, `LoadTexts`;
+-- `ConditionTexts`, `FileTexts` and `WriteTexts` of the writer; `VerdictMeaning`, `Answers`,
 -- `SearchLaws`, `Entries`, `EarliestTrap`, `SameInput`, `StateNumbers`, `ScratchLaws`, `NeverFires`
--- and `Described` of the search; `ReportLaws` and `Reported`; `Starred`, `WholeReport`, `LoadCases`
--- and `Instances` of the worked cases.
+-- and `Described` of the search; `ReportLaws` and `Reported`; `Starred`, `WholeReport`, `LoadCases`,
+-- `WriteCases` and `Instances` of the worked cases.
 pub mod Demands
 pub mod Reading
 pub mod Watching

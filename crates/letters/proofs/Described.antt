@@ -4,7 +4,7 @@
 use Prim.Native.Nat.{ℕ, zero, suc, _+_, _<_, _≤_}
 use native.Mathlib.Decide.{ℕ-discrete}
 use native.Mathlib.Omega.{arith}
-use mathlib.Core.Bool.{Bool, true, false, _||_, cond, true≢false}
+use mathlib.Core.Bool.{Bool, true, false, _||_, cond, or-true, true≢false}
 use mathlib.Core.List.{List, [], _∷_, List·Memᴰ, List·Memᴰ·head, List·Memᴰ·tail}
 use mathlib.Core.List.{List·Memᴰ·not-nil, List·Memᴰ·cases-cons}
 use mathlib.Core.Logic.{_⊎_, inl, inr}
@@ -68,14 +68,10 @@ module _ {A : Type 0} (test : A → Bool) where
   some-if x [] m e = absurd (List·Memᴰ·not-nil m)
   some-if x (y ∷ ys) m e = go (List·Memᴰ·cases-cons m) (λ later. some-if x ys later e)
     where
-      either : (t : Bool) → (t || true) ≡ true
-      either true = refl
-      either false = refl
-
       go : (x ≡ y) ⊎ List·Memᴰ x ys → (List·Memᴰ x ys → some test ys ≡ true)
           → (test y || some test ys) ≡ true
       go (inl same) ih = rw (← same, e)
-      go (inr later) ih = rw (ih later) (either (test y))
+      go (inr later) ih = rw (ih later) (or-true (test y))
 
   some-none : (xs : List A) → ((x : A) → List·Memᴰ x xs → test x ≡ false) → some test xs ≡ false
   unfolding some
