@@ -8,11 +8,12 @@ use native.Mathlib.Omega.{arith}
 use borrow.Author.Tests.{ltb-true, ltb-false, lt-ltb, le-ltb}
 use mathlib.Core.Bool.{Bool, true, false, _||_, cond, true≢false}
 use mathlib.Core.List.{List, [], _∷_}
-use mathlib.Core.Path.{_≡_, refl, sym}
+use mathlib.Core.Path.{_≡_, refl, sym, ap}
 use lib.Dec.{eqb, ltb}
-use lib.ListN.{length, getD, take, drop, drop-of-length-le}
+use lib.ListN.{length, getD, take, drop, take-append-drop, drop-of-length-le}
 use lib.Seq.{drop-cons}
 use Rattle.text.specs.Lines.{count}
+use Rattle.text.proofs.Splits.{count-append}
 use Rattle.conditions.specs.inner.Judge.{isByte, deep}
 use Rattle.conditions.specs.Depth.{Shallow, TooDeep}
 
@@ -101,6 +102,16 @@ module _ (xs : List ℕ) where
       go : (t : Bool) → deep 0 0 xs ≡ t → t ≡ true
       go true e = refl
       go false e = absurd (not-both h (deep-false e))
+
+-- Bytes without an opening parenthesis.
+pub free-shallow : (xs : List ℕ) → count (code "(") xs ≡ 0 → Shallow xs
+free-shallow xs free = record {
+  upto = λ i. omega (
+    arith,
+    count-append (code "(") (take i xs) (drop i xs),
+    ap (count (code "(")) (take-append-drop i xs),
+  );
+}
 
 -- The loop's turn.
 module _ (s : List ℕ) (o c i : ℕ) {x y : ℕ} (h : i < length s)

@@ -5,7 +5,8 @@
 pub mod Bytes
 -- Letters in front, a name as it is kept, and the name at a place.
 pub mod Names
--- The place of a name among names, and that a name is found exactly where it is kept.
+-- The place of a name among names, and that a name is found exactly where it is kept: different
+-- names each at their own place.
 pub mod Places
 -- Whatever a condition writes is read, with its meaning.
 pub mod Complete

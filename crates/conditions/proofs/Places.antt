@@ -1,21 +1,23 @@
 -- The place of a name among names: a loop's turn at place k, `-next` where it goes on, `-stop`
--- where it settles the answer, `-end` past the last; and that a name which is read is found exactly
--- where it is kept. Assumes nothing.
+-- where it settles the answer, `-end` past the last; that a name which is read is found exactly
+-- where it is kept; and that each of different names stands at its own place. Assumes nothing.
 use Prim.Native.Nat.{ℕ, zero, suc, _+_, _-_, _≤_, _<_}
 use native.Mathlib.Numerals.{add-one}
 use native.Mathlib.Omega.{arith}
-use borrow.Author.Tests.{ltb-true, lt-ltb, le-leb}
-use mathlib.Core.Bool.{Bool, true, false, _||_, cond}
-use mathlib.Core.List.{List, [], _∷_, _++_}
+use borrow.Author.Tests.{ltb-true, lt-ltb, le-leb, not-true}
+use mathlib.Core.Bool.{Bool, true, false, _||_, not, cond, true≢false}
+use mathlib.Core.List.{List, [], _∷_, _++_, map}
 use mathlib.Core.Path.{_≡_, refl, sym, ap, _∙_}
 use lib.Dec.{ltb, leb·suc-suc}
 use lib.ListN.{length, getD, take, drop, replicate, drop-of-length-le}
 use lib.Seq.{drop-cons, getD-take, take-append-seam, take-append-add, drop-append-seam}
 use Rattle.letters.specs.Lists.{every, some}
-use Rattle.letters.proofs.Lists.{sameBytes-true, lt-length-take}
-use Rattle.table.specs.Name.{nameRun, sameName, nameValid}
+use Rattle.letters.proofs.Lists.{and-left, and-right, or-neither, lt-length-take}
+use Rattle.letters.proofs.Lists.{sameBytes-refl, sameBytes-true, sameBytes-false}
+use Rattle.table.specs.Name.{nameRun, sameName, nameValid, allDistinct}
 use Rattle.table.specs.Row.{isZero}
 use Rattle.table.specs.declared.Name.{Name}
+use Rattle.text.specs.Lines.{All, none as all-none, and as all-and}
 use Rattle.conditions.specs.Condition.{IsName, nameOf, place}
 use Rattle.conditions.proofs.Names.{nameRun-append, take-zeros}
 
@@ -98,3 +100,36 @@ pub nameOf-injective : (v w : List ℕ) → IsName v → IsName w
 nameOf-injective v w h g e =
     let same = sameBytes-true (nameOf v .chars) (nameOf w .chars) e in
     sym (nameOf-take v h) ∙ rw same (nameOf-take w g)
+
+-- Names that stand at their own places, from place k on.
+pub data Placed (names : List Name) : ℕ → List (List ℕ) → Type 0 where
+  nowhere : {k : ℕ} → Placed names k []
+  here : {k : ℕ} {w : List ℕ} {words : List (List ℕ)} → IsName w → place names (nameOf w) ≡ k
+      → Placed names (suc k) words → Placed names k (w ∷ words)
+
+differ-both : (a b : Name) → sameName a b ≡ false → sameName b a ≡ false
+differ-both a b e =
+    sameBytes-false (b .chars) (a .chars)
+    (λ same. true≢false (sym (rw same (sameBytes-refl (a .chars))) ∙ e))
+
+placed-later : (first : Name) (names : List Name) (k : ℕ) (words : List (List ℕ))
+    → some (sameName first) (map nameOf words) ≡ false → Placed names k words
+    → Placed (first ∷ names) (suc k) words
+unfolding some place
+placed-later first names k [] e nowhere = nowhere
+placed-later first names k (w ∷ words) e (here h p rest) =
+    let later = some (sameName first) (map nameOf words) in
+    let parts = or-neither (sameName first (nameOf w)) later e in
+    here {k = suc k} h (rw (differ-both first (nameOf w) (parts .0), p))
+    (placed-later first names (suc k) words (parts .1) rest)
+
+pub words-placed : (words : List (List ℕ)) → All IsName words
+    → allDistinct (map nameOf words) ≡ true → Placed (map nameOf words) 0 words
+unfolding allDistinct place
+words-placed [] all-none h = nowhere
+words-placed (w ∷ words) (all-and name all) h =
+    let others = map nameOf words in
+    let apart = and-left (not (some (sameName (nameOf w)) others)) (allDistinct others) h in
+    let rest = and-right (not (some (sameName (nameOf w)) others)) (allDistinct others) h in
+    here {k = 0} name (rw (sameBytes-refl (nameOf w .chars)))
+    (placed-later (nameOf w) others 0 words (not-true _ apart) (words-placed words all rest))

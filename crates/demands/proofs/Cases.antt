@@ -70,8 +70,8 @@ loads-worked = LoadCases.loads-worked
 pub whole-load : loadAnswer (fileOf (textP ∷ textNotC ∷ [])) ≡ wholeTotals
 whole-load = LoadCases.whole-load
 
--- The writer of document 02, ask 6: the texts of conditions and of a row, and what is printed of the
--- same input, to the byte.
+-- The writer of document 02, ask 6: the texts of conditions and of a row, and what is printed of
+-- the same input, to the byte.
 pub texts-worked : All TextCaseMeans textCases
 texts-worked = WriteCases.texts-worked
 

@@ -1,8 +1,8 @@
 -- The promises, in the words of the demands. This file and the specs are all that has to be
 -- believed. What each function answers, refused or not, is its contract in src/: one equation with
 -- a definition of the specs; here stands what follows of those definitions. More is promised, by
--- subject, in `Reading`, `Watching`, `Happening`, `Searching`, `Reporting`, `Loading`, `Writing` and
--- `Cases`. Assumes nothing.
+-- subject, in `Reading`, `Watching`, `Happening`, `Searching`, `Reporting`, `Loading`, `Writing`
+-- and `Cases`. Assumes nothing.
 use Prim.Native.Nat.{ℕ, suc, _+_, _<_, _≤_}
 use mathlib.Core.Bool.{true, false}
 use mathlib.Core.List.{List}
@@ -13,7 +13,6 @@ use Rattle.letters.specs.Letter.{letters, bitAt, bit}
 use Rattle.table.specs.Limits.{mostBytes, mostRows}
 use Rattle.table.specs.Row.{noRow}
 use Rattle.table.specs.Valid.{tableValid, rowsValid, rowsOf}
-use Rattle.table.specs.declared.Outcome.the-variants.{Accepted}
 use Rattle.table.specs.declared.Row.{Row}
 use Rattle.table.specs.declared.Table.{Table}
 use Rattle.traces.specs.Trace.{AllBelow, run}
@@ -36,7 +35,6 @@ use Rattle.reader.proofs.Found as ReadingFound
 use Rattle.reader.proofs.Only as ReadingOnly
 use Rattle.load.specs.Load.{loadOf, totalsOf, noTotals, longestRun, runAnswer}
 use Rattle.verdict.specs.declared.RowLists.{RowLists}
-use Rattle.verdict.specs.Buffer.{written}
 use Rattle.verdict.specs.Found.{Verdict, valuesOf, soundFound, trappedFound}
 use Rattle.search.specs.Lent.{Lent, Searched, roomOf, systemOf, traced}
 use Rattle.search.specs.inner.Computed.{searchAnswer}
@@ -47,7 +45,7 @@ use Rattle.demands.specs.Searching.{Entered, RightAnswer, SameLengths, S
 use Rattle.demands.specs.Reporting.{RightReport}
 use Rattle.demands.specs.Loading.{RightLoad}
 use Rattle.demands.specs.Writing.{Writable, IsWritten, SameTable, RightWriting}
-use Rattle.report.specs.File.{fileText, unwritten, writeAnswer}
+use Rattle.report.specs.File.{fileText, unwritten, filled, writeAnswer}
 use Rattle.checker.specs.FileReport.{FileReport}
 use Rattle.checker.specs.inner.Computed.{checkAnswer, loadAnswer, writingAnswer}
 use Rattle.demands.proofs.Reading as Reading
@@ -294,8 +292,8 @@ pub files-alike : (bytes others : List ℕ) (one other : Table) → IsFile bytes
 files-alike = Writing.files-alike
 
 -- "Checks: 23 the file would exceed 4,096 bytes, then 24 the lent buffer is shorter than the file,
--- both after 17; the buffer is then unchanged. When the file is written, the answer gives its length
--- and the bytes behind it are unchanged."
+-- both after 17; the buffer is then unchanged. When the file is written, the answer gives its
+-- length and the bytes behind it are unchanged."
 module _ (table : Table) (buffer : List ℕ) where
   pub write-17 : (writeAnswer table buffer ≡ unwritten 17 buffer) ↔ (tableValid table ≡ false)
   write-17 = Writing.write-17 table buffer
@@ -309,11 +307,7 @@ module _ (table : Table) (buffer : List ℕ) where
       × (length buffer < length (fileText table)))
   write-24 = Writing.write-24 table buffer
 
-  pub written-exactly : (writeAnswer table buffer ≡ record {
-        outcome = Accepted;
-        length = length (fileText table);
-        buffer = written (fileText table) buffer;
-      })
+  pub written-exactly : (writeAnswer table buffer ≡ filled (fileText table) buffer)
       ↔ ((tableValid table ≡ true) × (length (fileText table) ≤ mostBytes)
       × (length (fileText table) ≤ length buffer))
   written-exactly = Writing.written-exactly table buffer

@@ -1,44 +1,37 @@
 -- The file of a table value: each line is the row that it was written from, so the file's table is
--- the value, where the file is not too long. And the table of a file has the sizes of the machine's.
--- Assumes nothing.
-use Prim.Native.Nat.{ℕ, zero, suc, _+_, _-_, _^_, _<_, _≤_, min}
-use native.Mathlib.Decide.{decLt}
+-- the value, where the file is not too long. Assumes nothing.
+use Prim.Native.Nat.{ℕ, suc, _≤_}
 use native.Mathlib.Omega.{arith}
-use mathlib.Core.Bool.{true, _&&_}
+use mathlib.Core.Bool.{true}
 use mathlib.Core.List.{List, [], _∷_, _++_, map}
 use mathlib.Core.Logic.{_↔_}
-use mathlib.Core.Path.{_≡_, refl, sym, ap, ap₂, subst, _∙_}
-use lib.ListN.{length, getD, take, drop, replicate, length-append, length-map, length-replicate}
-use lib.ListN.{List·getD-append, getD-replicate}
-use lib.Pow.{pow-mono}
-use lib.Seq.{length-take-le, getD-append-add}
-use Rattle.letters.specs.Letter.{letters, width, setBits, setValid}
+use mathlib.Core.Path.{_≡_, sym, ap, ap₂, subst, _∙_}
+use lib.ListN.{length, take, drop, length-map}
+use Rattle.letters.specs.Letter.{letters, width, setValid}
 use Rattle.letters.specs.Lists.{every}
-use Rattle.letters.proofs.Lists.{and-left, and-right, and-four}
-use Rattle.letters.proofs.Padding.{padded-length, padded-at, padded-beyond}
-use Rattle.table.specs.Limits.{mostBytes, mostSignals, mostRows, nameLength, conditions}
-use Rattle.table.specs.Row.{boundsValid, noRow, rowValid}
+use Rattle.letters.proofs.Bits.{width-letters}
+use Rattle.letters.proofs.Lists.{and-left, and-right}
+use Rattle.table.specs.Limits.{mostBytes, conditions}
+use Rattle.table.specs.Row.{rowValid}
 use Rattle.table.specs.Valid.{rowsOf}
 use Rattle.table.specs.declared.Name.{Name}
 use Rattle.table.specs.declared.Row.{Row}
 use Rattle.table.specs.declared.Table.{Table}
-use Rattle.table.proofs.Laws.{rowValid-bounds, tableValid-signals}
+use Rattle.table.proofs.Laws.{rowValid-bounds, rowValid-sets, tableValid-signals}
 use Rattle.text.specs.Lines.{joined, comma, All, none as all-none, and as all-and}
 use Rattle.text.specs.Words.{ruleWord}
-use Rattle.conditions.specs.Condition.{nameOf}
 use Rattle.conditions.specs.Judge.{IsCondition}
-use Rattle.header.specs.Header.{noName, namesFrom}
+use Rattle.header.specs.Header.{namesFrom}
 use Rattle.rows.specs.Row.{fieldKinds, IsRow}
-use Rattle.rows.proofs.Rules.{row-same, six-places}
+use Rattle.rows.proofs.Rules.{six-places}
 use Rattle.reader.specs.Grammar.{Each, none, and, AreRows, IsFile}
-use Rattle.reader.specs.Reading.{zeroRow, tableFrom}
-use Rattle.reader.specs.further.Witness.{Sized}
+use Rattle.reader.specs.Reading.{tableFrom}
 use Rattle.reader.proofs.Files as Files
 use Rattle.reader.proofs.Files.{Six}
 use Rattle.reader.proofs.RowLines.{textsOf, rowLine, line-row}
 use Rattle.report.specs.File.{nameText, conditionText, rowText, usedNames, fileText}
 use Rattle.demands.specs.Writing.{Writable, SameTable}
-use Rattle.demands.proofs.ConditionTexts.{condition-right}
+use Rattle.demands.proofs.ConditionTrees.{condition-right}
 
 -- A row's line is the one that the reader's laws speak of.
 line-same : (names : List Name) (s : ℕ) (row : Row) → length (row .sets) ≡ conditions
@@ -49,9 +42,6 @@ line-same names s row six =
     (take 3 sets ++ (row .tmin ∷ row .tmax ∷ row .lmin ∷ row .lmax ∷ [])
     ++ drop 3 sets ++ (row .amin ∷ row .amax ∷ []))))
     (six-places (row .sets) six)
-
-width-full : (s : ℕ) → s ≤ mostSignals → width s ≡ letters s
-width-full s few = omega (arith, pow-mono {i = s} {j = mostSignals} few)
 
 module _ (table : Table) (w : Writable table) where
   abbrev s : ℕ
@@ -68,7 +58,7 @@ module _ (table : Table) (w : Writable table) where
       → IsCondition used (width s) (conditionText used s set) set
   written-condition set fits =
       let counts = tableValid-signals table (w .passes) in
-      rw (width-full s (counts .1))
+      rw (width-letters s (counts .1))
       (subst (λ (k : ℕ). IsCondition used (letters k) (conditionText used k set) set) used-length
       (condition-right used (Files.words-are table (w .sized) (w .passes))
       (Files.words-known table (w .sized) (w .passes))
@@ -85,14 +75,10 @@ module _ (table : Table) (w : Writable table) where
 
   written-row : (row : Row) → length (row .sets) ≡ conditions → rowValid s row ≡ true
       → IsRow used (width s) (rowText used s row) row
-  unfolding rowValid
   written-row row six h =
-      let sets = and-right (boundsValid (row .tmin) (row .tmax)
-      && boundsValid (row .lmin) (row .lmax) && boundsValid (row .amin) (row .amax))
-      (every (setValid s) (row .sets)) h in
       subst (λ (line : List ℕ). IsRow used (width s) line row) (line-same used s row six)
-      (line-row (conditionText used s) used (width s) row six (sets-mean (row .sets) sets)
-      (rowValid-bounds s row h))
+      (line-row (conditionText used s) used (width s) row six
+      (sets-mean (row .sets) (rowValid-sets s row h)) (rowValid-bounds s row h))
 
   written-rows : (rows : List Row) → Six rows → every (rowValid s) rows ≡ true
       → Each (IsRow used (width s)) (map (rowText used s) rows) rows
@@ -138,65 +124,3 @@ parts-same e = record {
   count = ap (λ (t : Table). t .count) e;
   rows = ap rowsOf e;
 }
-
--- The sizes of a table that was read.
-name-places : (w : List ℕ) → length (nameOf w .chars) ≡ nameLength
-unfolding nameOf
-name-places w =
-    length-take-le nameLength (w ++ replicate nameLength 0)
-    (rw length-append (omega (arith, length-replicate {A = ℕ} nameLength 0)))
-
-rows-six : {names : List Name} {n : ℕ} {rules : List (List ℕ)} {rows : List Row}
-    → Each (IsRow names n) rules rows → Six rows
-rows-six none i low = absurd (omega arith)
-rows-six {names} {n} (and {a} {b} h more) zero low =
-    sym (ap (λ (r : Row). length (r .sets)) (row-same names n a b (h .has)))
-rows-six (and h more) (suc i) low = rows-six more i (omega arith)
-
-module _ (bytes : List ℕ) (t : Table) (f : IsFile bytes t) where
-  abbrev names : List (List ℕ)
-  names = f .names
-
-  abbrev rows : List Row
-  rows = f .rows
-
-  abbrev free : List Row
-  free = replicate (mostRows - length rows) zeroRow
-
-  chars-eight : (i : ℕ) → length (getD (namesFrom names) i noName .chars) ≡ nameLength
-  chars-eight i = go (decLt i (length names))
-    where
-      go : Dec (i < length names) → length (getD (namesFrom names) i noName .chars) ≡ nameLength
-      go (yes low) =
-          rw (padded-at nameOf noName mostSignals names [] i low) (name-places (getD names i []))
-      go (no high) = rw (padded-beyond nameOf noName mostSignals names i (omega arith))
-
-  sets-six : (i : ℕ) → i < mostRows → length (getD (rows ++ free) i noRow .sets) ≡ conditions
-  sets-six i few = go (decLt i (length rows))
-    where
-      go : Dec (i < length rows) → length (getD (rows ++ free) i noRow .sets) ≡ conditions
-      go (yes low) = rw (List·getD-append rows free noRow i low) (rows-six (f .rows-are) i low)
-      go (no high) =
-          let k = i - length rows in
-          let e : i ≡ length rows + k = omega arith in
-          ap (λ (j : ℕ). length (getD (rows ++ free) j noRow .sets)) e
-          ∙ rw (
-            getD-append-add rows free k noRow,
-            getD-replicate (mostRows - length rows) k zeroRow noRow (omega arith),
-          )
-
-  pub file-sized : Sized t
-  file-sized = record {
-    names = ap (λ (t : Table). length (t .names)) (f .table-is)
-        ∙ padded-length nameOf noName mostSignals names (f .header .few);
-    chars = λ i low. ap (λ (t : Table). length (getD (t .names) i noName .chars)) (f .table-is)
-        ∙ chars-eight i;
-    rows = ap (λ (t : Table). length (t .rows)) (f .table-is)
-        ∙ rw length-append (omega (
-          arith,
-          f .rows-few,
-          length-replicate {A = Row} (mostRows - length rows) zeroRow,
-        ));
-    sets = λ i low. ap (λ (t : Table). length (getD (t .rows) i noRow .sets)) (f .table-is)
-        ∙ sets-six i low;
-  }

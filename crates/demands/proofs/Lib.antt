@@ -1,10 +1,10 @@
 -- Read `Demands` and the specs: nothing else has to be believed. What is promised besides stands by
 -- subject: `Reading`, `Watching`, `Happening`, `Searching`, `Reporting`, `Loading`, `Writing`,
 -- `Cases`. Below them are proofs: `WatchLaws`, `WatchCalls`; `LoadLaws`, `LoadTexts`;
--- `ConditionTexts`, `FileTexts` and `WriteTexts` of the writer; `VerdictMeaning`, `Answers`,
+-- `ConditionTexts`, `ConditionTrees`, `FileTexts`, `WriteTexts`; `VerdictMeaning`, `Answers`,
 -- `SearchLaws`, `Entries`, `EarliestTrap`, `SameInput`, `StateNumbers`, `ScratchLaws`, `NeverFires`
--- and `Described` of the search; `ReportLaws` and `Reported`; `Starred`, `WholeReport`, `LoadCases`,
--- `WriteCases` and `Instances` of the worked cases.
+-- and `Described` of the search; `ReportLaws` and `Reported`; `Starred`, `WholeReport`,
+-- `LoadCases`, `WriteCases` and `Instances` of the worked cases.
 pub mod Demands
 pub mod Reading
 pub mod Watching
@@ -19,6 +19,7 @@ pub mod WatchCalls
 pub mod LoadLaws
 pub mod LoadTexts
 pub mod ConditionTexts
+pub mod ConditionTrees
 pub mod FileTexts
 pub mod WriteTexts
 pub mod VerdictMeaning

@@ -1,5 +1,4 @@
 -- The worked cases of the writer, by computing over the definitions. Assumes nothing.
-use Prim.Native.Nat.{ℕ}
 use mathlib.Core.List.{[], _∷_}
 use mathlib.Core.Path.{_≡_, refl}
 use lib.ListN.{length}

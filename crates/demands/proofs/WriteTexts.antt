@@ -5,7 +5,7 @@ use borrow.Author.Tests.{lt-ltb, le-ltb}
 use native.Mathlib.Decide.{decLe, decLt}
 use native.Mathlib.Omega.{arith}
 use mathlib.Core.Bool.{Bool, true, false}
-use mathlib.Core.List.{List, [], _∷_}
+use mathlib.Core.List.{List}
 use mathlib.Core.Logic.{_⊎_, inl, inr, _↔_}
 use mathlib.Core.Path.{_≡_, refl, sym, ap, subst, _∙_}
 use lib.ListN.{length, take, drop}
@@ -21,9 +21,8 @@ use Rattle.reader.specs.inner.File.{readAnswer}
 use Rattle.reader.proofs.Accepted.{Decided, taken, turned, read-decided, file-accepted}
 use Rattle.reader.proofs.Found.{read-answered}
 use Rattle.reader.proofs.Only.{read-only}
-use Rattle.verdict.specs.Buffer.{written}
 use Rattle.verdict.proofs.Buffer.{written-fits, written-front}
-use Rattle.report.specs.File.{fileText, WriteCall, unwritten, writeAnswer}
+use Rattle.report.specs.File.{fileText, WriteCall, unwritten, filled, writeAnswer}
 use Rattle.checker.specs.inner.Computed.{afterWriting, writingAnswer}
 use Rattle.demands.specs.Writing.{IsWritten, RightWriting}
 use Rattle.demands.specs.Writing.RightWriting.{refused, tooLong, written as printed}
@@ -33,9 +32,6 @@ use Rattle.demands.proofs.FileTexts.{written-file}
 module _ (table : Table) (buffer : List ℕ) where
   abbrev text : List ℕ
   text = fileText table
-
-  abbrev pub filled : WriteCall
-  filled = record { outcome = Accepted; length = length text; buffer = written text buffer }
 
   -- What holds under each answer.
   data Case : Type 0 where
@@ -49,7 +45,7 @@ module _ (table : Table) (buffer : List ℕ) where
   answerOf (is17 fails) = unwritten 17 buffer
   answerOf (is23 passes long) = unwritten 23 buffer
   answerOf (is24 passes few short) = unwritten 24 buffer
-  answerOf (isWritten passes few room) = filled
+  answerOf (isWritten passes few room) = filled text buffer
 
   case-answer : (case : Case) → writeAnswer table buffer ≡ answerOf case
   unfolding writeAnswer
@@ -135,23 +131,23 @@ module _ (table : Table) (buffer : List ℕ) where
     λ h. case-answer (is24 (h .0) (h .1) (h .2)),
   )
 
-  pub written-exactly : (writeAnswer table buffer ≡ filled)
+  pub written-exactly : (writeAnswer table buffer ≡ filled text buffer)
       ↔ ((tableValid table ≡ true) × (length text ≤ mostBytes) × (length text ≤ length buffer))
   written-exactly = (
-    λ e. only-written case-found (case-number filled e),
+    λ e. only-written case-found (case-number (filled text buffer) e),
     λ h. case-answer (isWritten (h .0) (h .1) (h .2)),
   )
 
   pub write-one-of-four : (writeAnswer table buffer ≡ unwritten 17 buffer)
       ⊎ ((writeAnswer table buffer ≡ unwritten 23 buffer)
       ⊎ ((writeAnswer table buffer ≡ unwritten 24 buffer)
-      ⊎ (writeAnswer table buffer ≡ filled)))
+      ⊎ (writeAnswer table buffer ≡ filled text buffer)))
   write-one-of-four = go case-found
     where
       go : Case → (writeAnswer table buffer ≡ unwritten 17 buffer)
           ⊎ ((writeAnswer table buffer ≡ unwritten 23 buffer)
           ⊎ ((writeAnswer table buffer ≡ unwritten 24 buffer)
-          ⊎ (writeAnswer table buffer ≡ filled)))
+          ⊎ (writeAnswer table buffer ≡ filled text buffer)))
       go (is17 fails) = inl (case-answer (is17 fails))
       go (is23 passes long) = inr (inl (case-answer (is23 passes long)))
       go (is24 passes few short) = inr (inr (inl (case-answer (is24 passes few short))))

@@ -17,9 +17,8 @@ use Rattle.reader.specs.Grammar.{IsFile}
 use Rattle.reader.specs.Reading.{accepted}
 use Rattle.reader.specs.further.Witness.{Sized}
 use Rattle.reader.specs.inner.File.{readAnswer}
-use Rattle.verdict.specs.Buffer.{written}
-use Rattle.report.specs.File.{conditionText, usedNames, fileText, WriteCall, unwritten}
-use Rattle.report.specs.File.{writeAnswer}
+use Rattle.reader.proofs.Sizes as Sizes
+use Rattle.report.specs.File.{conditionText, usedNames, fileText, unwritten, filled, writeAnswer}
 use Rattle.checker.specs.inner.Computed.{writingAnswer}
 use Rattle.demands.specs.Writing.{Writable, IsWritten, SameTable, RightWriting}
 use Rattle.demands.specs.further.Canonical.{IsConditionText}
@@ -79,7 +78,7 @@ module _ (one other : Table) where
 -- The table of a file is such a table value.
 module _ (bytes : List ℕ) (table : Table) (file : IsFile bytes table) where
   pub file-sized : Sized table
-  file-sized = Files.file-sized bytes table file
+  file-sized = Sizes.file-sized bytes table file
 
   pub file-writable : Writable table
   file-writable =
@@ -116,17 +115,14 @@ module _ (table : Table) (buffer : List ℕ) where
       ↔ ((tableValid table ≡ true) × (length text ≤ mostBytes) × (length buffer < length text))
   write-24 = Texts.write-24 table buffer
 
-  abbrev filled : WriteCall
-  filled = record { outcome = Accepted; length = length text; buffer = written text buffer }
-
-  pub written-exactly : (writeAnswer table buffer ≡ filled)
+  pub written-exactly : (writeAnswer table buffer ≡ filled text buffer)
       ↔ ((tableValid table ≡ true) × (length text ≤ mostBytes) × (length text ≤ length buffer))
   written-exactly = Texts.written-exactly table buffer
 
   pub write-one-of-four : (writeAnswer table buffer ≡ unwritten 17 buffer)
       ⊎ ((writeAnswer table buffer ≡ unwritten 23 buffer)
       ⊎ ((writeAnswer table buffer ≡ unwritten 24 buffer)
-      ⊎ (writeAnswer table buffer ≡ filled)))
+      ⊎ (writeAnswer table buffer ≡ filled text buffer)))
   write-one-of-four = Texts.write-one-of-four table buffer
 
   -- "The buffer is then unchanged. When the file is written, the answer gives its length and the

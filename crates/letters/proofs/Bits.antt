@@ -9,7 +9,7 @@ use mathlib.Core.Path.{_≡_, refl, sym, ap, _∙_}
 use borrow.Author.Tests.{lt-ltb, ltb-true, eqb-false}
 use lib.Dec.{eqb, lit<}
 use lib.Pow.{pow-pos, pow-mono, shr-shr, shl-exact}
-use Rattle.letters.specs.Letter.{bitAt, bit, inSet, letters, setValid, setBits}
+use Rattle.letters.specs.Letter.{bitAt, bit, inSet, letters, setValid, setBits, width}
 
 -- Bit 0, and the bits above it.
 pub bit-zero : (x : ℕ) → bitAt x 0 ≡ eqb (x % 2) 1
@@ -51,6 +51,9 @@ bit-injective a b e = sym (eqb-bit a) ∙ ap (λ (x : ℕ). eqb x 1) e ∙ eqb-b
 -- The signals that have as many letters as a set has bits.
 abbrev pub setSignals : ℕ
 setSignals = 6
+
+pub width-letters : (s : ℕ) → s ≤ setSignals → width s ≡ letters s
+width-letters s few = omega (arith, pow-mono {i = s} {j = setSignals} few)
 
 -- What the code's `1 << k` is.
 pub one-shifted : (k : ℕ) → k < setBits → (1 * 2 ^ k) % 2 ^ setBits ≡ 2 ^ k

@@ -21,6 +21,11 @@ pub and-right : (a b : Bool) → (a && b) ≡ true → b ≡ true
 and-right true b h = h
 and-right false b h = absurd (let z : _≡_ {A = ℕ} 0 1 = cc in omega arith)
 
+-- Both halves of a choice that failed.
+pub or-neither : (a b : Bool) → (a || b) ≡ false → (a ≡ false) × (b ≡ false)
+or-neither true b h = absurd (let z : _≡_ {A = ℕ} 0 1 = cc in omega arith)
+or-neither false b h = (refl, h)
+
 -- A number in a range lies between its ends, and one between them is in it.
 module _ (least most n : ℕ) where
   pub within-low : within least most n ≡ true → least ≤ n

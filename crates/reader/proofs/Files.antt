@@ -1,7 +1,7 @@
 -- The file of a table value that number 17 lets by: its names and any lines that are rows, as many
 -- as its row count, in at most 4,096 bytes; and with its own rows that file's table is the value
 -- itself. Assumes nothing.
-use Prim.Native.Nat.{ℕ, zero, suc, _+_, _-_, _<_, _≤_}
+use Prim.Native.Nat.{ℕ, suc, _+_, _-_, _<_, _≤_}
 use borrow.Author.Tests.{eqb-true}
 use native.Mathlib.Omega.{arith}
 use mathlib.Core.Bool.{true, _&&_}

@@ -1,10 +1,10 @@
 -- The lines of rows with the bounds of given ones, and `0` for each condition. Assumes nothing.
-use Prim.Native.Nat.{ℕ, zero, suc, _+_, _*_, _≤_}
+use Prim.Native.Nat.{ℕ, _*_, _≤_}
 use native.Mathlib.Omega.{arith}
 use mathlib.Core.Bool.{true}
 use mathlib.Core.List.{List, [], _∷_, map}
 use mathlib.Core.Path.{_≡_, refl}
-use lib.ListN.{length, take, replicate, length-append}
+use lib.ListN.{length, replicate, length-append}
 use Rattle.letters.specs.Lists.{every}
 use Rattle.letters.proofs.Lists.{and-left, and-right}
 use Rattle.letters.proofs.Sets.{setOf-false}
@@ -14,11 +14,11 @@ use Rattle.table.specs.declared.Name.{Name}
 use Rattle.table.specs.declared.Row.{Row}
 use Rattle.table.proofs.Laws.{RowBounds, rowValid-bounds}
 use Rattle.text.specs.Lines.{ended, count, comma, All, none as all-none, and as all-and}
-use Rattle.text.specs.Words.{falseSign, openSign, closeSign}
+use Rattle.text.specs.Words.{falseSign}
 use Rattle.text.proofs.Joins.{joined-length}
 use Rattle.conditions.specs.Condition.{oneTerm, oneFactor, never, text, holdsAt, unknown}
-use Rattle.conditions.specs.Depth.{mostOpen}
 use Rattle.conditions.specs.Judge.{IsCondition}
+use Rattle.conditions.proofs.Depth.{free-shallow}
 use Rattle.rows.specs.Row.{fieldKinds, rowValues, IsRow}
 use Rattle.reader.specs.Grammar.{Each, none, and}
 use Rattle.reader.specs.further.Witness.{SameBounds}
@@ -28,17 +28,10 @@ use Rattle.reader.proofs.RowLines.{values-right, textsOf, rowLine, text
 abbrev zeroText : ℕ → List ℕ
 zeroText v = falseSign ∷ []
 
-zero-shallow : (i : ℕ)
-    → count openSign (take i (zeroText 0)) ≤ count closeSign (take i (zeroText 0)) + mostOpen
-unfolding count
-zero-shallow zero = omega arith
-zero-shallow (suc zero) = omega arith
-zero-shallow (suc (suc i)) = omega arith
-
 zero-condition : (names : List Name) (n : ℕ) → IsCondition names n (zeroText 0) 0
-unfolding text holdsAt unknown
+unfolding text holdsAt unknown count
 zero-condition names n = record {
-  shallow = record { upto = zero-shallow };
+  shallow = free-shallow (zeroText 0) refl;
   means = record {
     tree = oneTerm (oneFactor never);
     bytes = refl;

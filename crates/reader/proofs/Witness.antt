@@ -2,7 +2,7 @@
 -- row count and its bounds in an accepted file, one with `0` for each condition. In the logic a
 -- list has any length: that a table value has six names of eight places and eight rows, as each
 -- value of the machine has, is a hypothesis (`Sized`). Assumes nothing.
-use Prim.Native.Nat.{ℕ, _+_, _≤_}
+use Prim.Native.Nat.{ℕ, _≤_}
 use native.Mathlib.Omega.{arith}
 use mathlib.Core.Bool.{true}
 use mathlib.Core.List.{List, _∷_, _++_, map}

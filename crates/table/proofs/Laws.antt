@@ -89,6 +89,12 @@ rowValid-bounds s r h =
       action-most = a .1;
     }
 
+pub rowValid-sets : (s : ℕ) (r : Row) → rowValid s r ≡ true → every (setValid s) (r .sets) ≡ true
+unfolding rowValid
+rowValid-sets s r h =
+    and-four (boundsValid (r .tmin) (r .tmax)) (boundsValid (r .lmin) (r .lmax))
+    (boundsValid (r .amin) (r .amax)) (every (setValid s) (r .sets)) h .3
+
 pub rowsValid-signals : (s : ℕ) (rows : List Row) → rowsValid s rows ≡ true
     → (1 ≤ s) × (s ≤ mostSignals)
 unfolding rowsValid
