@@ -2,6 +2,7 @@
 -- nothing.
 use Prim.Native.Nat.{ℕ, zero, suc, _+_, _<_}
 use native.Mathlib.Decide.{ℕ-discrete}
+use native.Mathlib.Nat.{zero-add}
 use native.Mathlib.Omega.{arith}
 use borrow.Author.Tests.{eq-eqb, ne-eqb}
 use mathlib.Core.Bool.{Bool, true, false, cond, true≢false}
@@ -39,17 +40,14 @@ literals-at k (name ∷ names) letter (suc i) low =
     let e : k + suc i ≡ suc k + i = omega arith in
     rw e (literals-at (suc k) names letter i (omega arith))
 
-zero-plus : (k : ℕ) → 0 + k ≡ k
-zero-plus k = omega arith
-
 module _ (names : List Name) where
   term-described : (letter : ℕ) → IsTerm names letter (termText names letter)
   term-described letter = record {
     pieces = literals 0 names letter;
     are = refl;
     all = literals-length 0 names letter;
-    on = λ k low e. literals-at 0 names letter k low ∙ rw (zero-plus k, e);
-    off = λ k low e. literals-at 0 names letter k low ∙ rw (zero-plus k, e);
+    on = λ k low e. literals-at 0 names letter k low ∙ rw (zero-add, e);
+    off = λ k low e. literals-at 0 names letter k low ∙ rw (zero-add, e);
   }
 
   term-only : (letter : ℕ) (xs : List ℕ) → IsTerm names letter xs → xs ≡ termText names letter
@@ -58,7 +56,7 @@ module _ (names : List Name) where
       ∙ ap (joined andSign) (ext-getD [] (h .pieces) (literals 0 names letter)
       (h .all ∙ sym (literals-length 0 names letter))
       (λ k low. go k (omega (arith, h .all)) (signalOn letter k) refl
-      ∙ sym (literals-at 0 names letter k (omega (arith, h .all)) ∙ rw (zero-plus k))))
+      ∙ sym (literals-at 0 names letter k (omega (arith, h .all)) ∙ rw zero-add)))
     where
       go : (k : ℕ) → k < length names → (t : Bool) → signalOn letter k ≡ t
           → getD (h .pieces) k []

@@ -1,22 +1,21 @@
 -- What `loadtable` prints of a file: `RightLoad`, and nothing else. Assumes nothing.
-use Prim.Native.Nat.{ℕ, suc, _<_, _≤_}
-use native.Mathlib.Decide.{decLe}
+use Prim.Native.Nat.{ℕ, suc}
 use native.Mathlib.Omega.{arith}
 use mathlib.Core.List.{List, [], _∷_, _++_}
 use mathlib.Core.Path.{_≡_, sym, ap, subst, _∙_}
 use lib.ListN.{length, take, length-map}
-use lib.Seq.{length-take-le, take-all, take-at, take-append-seam}
+use lib.Seq.{take-at, take-append-seam}
 use Rattle.table.specs.Limits.{mostBytes}
 use Rattle.table.specs.Valid.{rowsOf}
 use Rattle.table.specs.declared.Table.{Table}
 use Rattle.text.specs.Lines.{ended}
 use Rattle.reader.specs.Grammar.{IsFile}
-use Rattle.reader.specs.Right.{RightReading, is2}
+use Rattle.reader.specs.Right.{RightReading}
 use Rattle.reader.specs.inner.File.{readAnswer}
 use Rattle.reader.proofs.Accepted.{Decided, taken, turned, read-decided, file-accepted}
 use Rattle.reader.proofs.Valid.{file-valid}
 use Rattle.reader.proofs.Found.{read-answered}
-use Rattle.reader.proofs.Only.{read-only}
+use Rattle.reader.proofs.Only.{read-only, read-first-bytes}
 use Rattle.load.specs.Load.{totalsOver, sumsOf, runAnswer}
 use Rattle.load.proofs.Runs.{run-taken}
 use Rattle.report.specs.Totals.{totalsLines, sumsLine, runLines, runBytes}
@@ -77,16 +76,8 @@ module _ (bytes : List ℕ) where
           (omega (arith, few, file .rows-some)) (omega (arith, few, file .rows-few)))
       go (turned number line one small low e) = rw e (refusal number line one small)
 
--- The first bytes of a file that is too long say so.
+-- No more of a file is read than its first 4,097 bytes.
 pub load-first-bytes : (bytes : List ℕ)
     → loadAnswer (take (suc mostBytes) bytes) ≡ loadAnswer bytes
-load-first-bytes bytes = go (decLe (length bytes) (suc mostBytes))
-  where
-    go : Dec (length bytes ≤ suc mostBytes)
-        → loadAnswer (take (suc mostBytes) bytes) ≡ loadAnswer bytes
-    go (yes h) = ap loadAnswer (take-all (suc mostBytes) bytes h)
-    go (no h) =
-        let long : mostBytes < length bytes = omega arith in
-        let front = length-take-le (suc mostBytes) bytes (omega arith) in
-        load-only (take (suc mostBytes) bytes) _ (refused (is2 (omega (arith, front))))
-        ∙ sym (load-only bytes _ (refused (is2 long)))
+unfolding loadAnswer
+load-first-bytes bytes = rw (read-first-bytes bytes)

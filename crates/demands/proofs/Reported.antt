@@ -1,23 +1,20 @@
 -- The report of a file, described without computing, both ways; what the program can print; and
--- that the first bytes of a file that is too long are enough. Assumes nothing.
-use Prim.Native.Nat.{ℕ, suc, _<_, _≤_}
-use native.Mathlib.Decide.{decLe}
+-- that it reads no more of a file than its first bytes. Assumes nothing.
+use Prim.Native.Nat.{ℕ, suc}
 use native.Mathlib.Nat.{lt-irrefl, lt-of-lt-of-le}
-use native.Mathlib.Omega.{arith}
 use mathlib.Core.Bool.{true≢false}
 use mathlib.Core.List.{List, [], _∷_, append-assoc}
-use mathlib.Core.Path.{_≡_, sym, ap, subst, _∙_}
-use lib.ListN.{length, take}
-use lib.Seq.{length-take-le, take-all}
+use mathlib.Core.Path.{_≡_, sym, subst, _∙_}
+use lib.ListN.{take}
 use Rattle.table.specs.Limits.{mostBytes}
 use Rattle.table.specs.declared.Table.{Table}
 use Rattle.reader.specs.Grammar.{IsFile}
-use Rattle.reader.specs.Right.{RightReading, is2}
+use Rattle.reader.specs.Right.{RightReading}
 use Rattle.reader.specs.inner.File.{readAnswer}
 use Rattle.reader.proofs.Accepted.{Decided, taken, turned, read-decided, file-accepted}
 use Rattle.reader.proofs.Valid.{file-valid}
 use Rattle.reader.proofs.Found.{read-answered}
-use Rattle.reader.proofs.Only.{read-only}
+use Rattle.reader.proofs.Only.{read-only, read-first-bytes}
 use Rattle.verdict.proofs.Buffer.{written-front}
 use Rattle.search.specs.Lent.{Lent, Searched}
 use Rattle.report.specs.Report.{tickLines, lostLine, listLines, reportLines, reportBytes}
@@ -78,16 +75,8 @@ module _ (bytes : List ℕ) where
   pub program-prints : ProgramPrints (checkAnswer bytes programLent .report)
   program-prints = by-file (read-decided bytes)
 
--- The first bytes of a file that is too long say so.
+-- No more of a file is read than its first 4,097 bytes.
 pub first-bytes : (bytes : List ℕ) (lent : Lent)
     → checkAnswer (take (suc mostBytes) bytes) lent ≡ checkAnswer bytes lent
-first-bytes bytes lent = go (decLe (length bytes) (suc mostBytes))
-  where
-    go : Dec (length bytes ≤ suc mostBytes)
-        → checkAnswer (take (suc mostBytes) bytes) lent ≡ checkAnswer bytes lent
-    go (yes h) = ap (λ (l : List ℕ). checkAnswer l lent) (take-all (suc mostBytes) bytes h)
-    go (no h) =
-        let long : mostBytes < length bytes = omega arith in
-        let taken = length-take-le (suc mostBytes) bytes (omega arith) in
-        report-only (take (suc mostBytes) bytes) lent _ (refused (is2 (omega (arith, taken))))
-        ∙ sym (report-only bytes lent _ (refused (is2 long)))
+unfolding checkAnswer
+first-bytes bytes lent = rw (read-first-bytes bytes)

@@ -2,25 +2,25 @@
 -- file: `RightWriting`, and nothing else. Assumes nothing.
 use Prim.Native.Nat.{ℕ, suc, _<_, _≤_}
 use borrow.Author.Tests.{lt-ltb, le-ltb}
-use native.Mathlib.Decide.{decLe, decLt}
+use native.Mathlib.Decide.{decLt}
 use native.Mathlib.Omega.{arith}
 use mathlib.Core.Bool.{Bool, true, false}
 use mathlib.Core.List.{List}
 use mathlib.Core.Logic.{_⊎_, inl, inr, _↔_}
 use mathlib.Core.Path.{_≡_, refl, sym, ap, subst, _∙_}
 use lib.ListN.{length, take, drop}
-use lib.Seq.{length-take-le, take-all, drop-append-seam}
+use lib.Seq.{drop-append-seam}
 use Rattle.table.specs.Limits.{mostBytes}
 use Rattle.table.specs.Valid.{tableValid}
 use Rattle.table.specs.further.Numbers.{numberOf}
 use Rattle.table.specs.declared.Outcome.the-variants.{Accepted}
 use Rattle.table.specs.declared.Table.{Table}
 use Rattle.reader.specs.Grammar.{IsFile}
-use Rattle.reader.specs.Right.{RightReading, is2}
+use Rattle.reader.specs.Right.{RightReading}
 use Rattle.reader.specs.inner.File.{readAnswer}
 use Rattle.reader.proofs.Accepted.{Decided, taken, turned, read-decided, file-accepted}
 use Rattle.reader.proofs.Found.{read-answered}
-use Rattle.reader.proofs.Only.{read-only}
+use Rattle.reader.proofs.Only.{read-only, read-first-bytes}
 use Rattle.verdict.proofs.Buffer.{written-fits, written-front}
 use Rattle.report.specs.File.{fileText, WriteCall, unwritten, filled, writeAnswer}
 use Rattle.checker.specs.inner.Computed.{afterWriting, writingAnswer}
@@ -214,16 +214,8 @@ written-again table w =
     writing-only (fileText table) (fileText table)
     (printed (written-file table (w .writable) .1 (w .short)) (w .short))
 
--- The first bytes of a file that is too long say so.
+-- No more of a file is read than its first 4,097 bytes.
 pub writing-first-bytes : (bytes : List ℕ)
     → writingAnswer (take (suc mostBytes) bytes) ≡ writingAnswer bytes
-writing-first-bytes bytes = go (decLe (length bytes) (suc mostBytes))
-  where
-    go : Dec (length bytes ≤ suc mostBytes)
-        → writingAnswer (take (suc mostBytes) bytes) ≡ writingAnswer bytes
-    go (yes h) = ap writingAnswer (take-all (suc mostBytes) bytes h)
-    go (no h) =
-        let long : mostBytes < length bytes = omega arith in
-        let front = length-take-le (suc mostBytes) bytes (omega arith) in
-        writing-only (take (suc mostBytes) bytes) _ (refused (is2 (omega (arith, front))))
-        ∙ sym (writing-only bytes _ (refused (is2 long)))
+unfolding writingAnswer
+writing-first-bytes bytes = rw (read-first-bytes bytes)

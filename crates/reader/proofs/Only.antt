@@ -1,13 +1,15 @@
--- An answer that is right is the computed one. Assumes nothing.
+-- An answer that is right is the computed one; and the first bytes of a file that is too long are
+-- enough. Assumes nothing.
 use Prim.Native.Nat.{ℕ, suc, _+_, _-_, _<_, _≤_}
 use borrow.Author.Tests.{ne-eqb, lt-ltb}
+use native.Mathlib.Decide.{decLe}
 use native.Mathlib.Omega.{arith}
 use mathlib.Core.List.{List, [], _∷_, _++_, map, append-nil}
 use mathlib.Core.Path.{_≡_, refl, sym, ap, _∙_}
 use lib.ListN.{length, getD, take, length-append, length-map}
-use lib.Seq.{take-at, getD-append-seam}
+use lib.Seq.{length-take-le, take-all, take-at, getD-append-seam}
 use Rattle.letters.specs.Letter.{width}
-use Rattle.table.specs.Limits.{mostRows}
+use Rattle.table.specs.Limits.{mostBytes, mostRows}
 use Rattle.table.specs.declared.Row.{Row}
 use Rattle.table.specs.declared.Table.{Table}
 use Rattle.text.specs.Lines.{LF, space, ended}
@@ -198,3 +200,17 @@ module _ (bytes : List ℕ) where
       (rows-stop names (length rules) low line rest number f) b
   read-only r (is16 {names} b) = rules-next names [] b
   read-only r (isTable {table} f) = table-read table f
+
+-- The first bytes of a file that is too long say so.
+pub read-first-bytes : (bytes : List ℕ)
+    → readAnswer (take (suc mostBytes) bytes) ≡ readAnswer bytes
+read-first-bytes bytes = go (decLe (length bytes) (suc mostBytes))
+  where
+    go : Dec (length bytes ≤ suc mostBytes)
+        → readAnswer (take (suc mostBytes) bytes) ≡ readAnswer bytes
+    go (yes h) = ap readAnswer (take-all (suc mostBytes) bytes h)
+    go (no h) =
+        let long : mostBytes < length bytes = omega arith in
+        let front = length-take-le (suc mostBytes) bytes (omega arith) in
+        read-only (take (suc mostBytes) bytes) _ (is2 (omega (arith, front)))
+        ∙ sym (read-only bytes _ (is2 long))
