@@ -20,8 +20,8 @@ use Rattle.reader.proofs.Valid.{file-valid}
 use Rattle.verdict.specs.Buffer.{written}
 use Rattle.verdict.proofs.Buffer.{written-length}
 use Rattle.report.specs.Report.{refusedText}
-use Rattle.report.specs.File.{fileText, WriteCall, unwritten, writeAnswer}
-use Rattle.report.proofs.Answers.{too-long, all-written}
+use Rattle.report.specs.File.{fileText, WriteCall, unwritten, wrote, writeAnswer}
+use Rattle.report.proofs.Answers.{is23, isWritten, case-answer}
 use Rattle.report.proofs.Lengths.{refused-length}
 use Rattle.checker.specs.inner.Computed.{afterWriting, writingAnswer}
 
@@ -69,11 +69,7 @@ module _ (table : Table) (buffer : List ℕ) (passes : tableValid table ≡ true
     taken = λ e. absurd (let z : _≡_ {A = ℕ} 0 1 = cc in omega arith);
   }
 
-  short-printed : length (fileText table) ≤ mostBytes → Printed (record {
-    outcome = Accepted;
-    length = length (fileText table);
-    buffer = written (fileText table) buffer;
-  })
+  short-printed : length (fileText table) ≤ mostBytes → Printed (wrote (fileText table) buffer)
   short-printed short = record {
     refused = λ refusal e. absurd (let z : _≡_ {A = ℕ} 0 1 = cc in omega arith);
     taken = λ e. rw (le-ltb mostBytes (length (fileText table)) short) (refl, refl);
@@ -83,10 +79,10 @@ module _ (table : Table) (buffer : List ℕ) (passes : tableValid table ≡ true
   write-printed {call} e = go (decLt mostBytes (length (fileText table)))
     where
       go : Dec (mostBytes < length (fileText table)) → Printed call
-      go (yes long) = rw (e, too-long table buffer passes long) (long-printed long)
+      go (yes long) = rw (e, case-answer table buffer (is23 passes long)) (long-printed long)
       go (no h) =
           let short : length (fileText table) ≤ mostBytes = omega arith in
-          rw (e, all-written table buffer passes short (omega arith)) (short-printed short)
+          rw (e, case-answer table buffer (isWritten passes short (omega arith))) (short-printed short)
 
 -- No more is printed than a file has bytes.
 refused-short : (number line : ℕ) → number < 1000 → line < 1000

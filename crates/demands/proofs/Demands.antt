@@ -45,7 +45,7 @@ use Rattle.demands.specs.Searching.{Entered, RightAnswer, SameLengths, S
 use Rattle.demands.specs.Reporting.{RightReport}
 use Rattle.demands.specs.Loading.{RightLoad}
 use Rattle.demands.specs.Writing.{Writable, IsWritten, SameTable, RightWriting}
-use Rattle.report.specs.File.{fileText, unwritten, filled, writeAnswer}
+use Rattle.report.specs.File.{fileText, unwritten, wrote, writeAnswer}
 use Rattle.checker.specs.FileReport.{FileReport}
 use Rattle.checker.specs.inner.Computed.{checkAnswer, loadAnswer, writingAnswer}
 use Rattle.demands.proofs.Reading as Reading
@@ -307,7 +307,7 @@ module _ (table : Table) (buffer : List ℕ) where
       × (length buffer < length (fileText table)))
   write-24 = Writing.write-24 table buffer
 
-  pub written-exactly : (writeAnswer table buffer ≡ filled (fileText table) buffer)
+  pub written-exactly : (writeAnswer table buffer ≡ wrote (fileText table) buffer)
       ↔ ((tableValid table ≡ true) × (length (fileText table) ≤ mostBytes)
       × (length (fileText table) ≤ length buffer))
   written-exactly = Writing.written-exactly table buffer

@@ -22,7 +22,9 @@ use Rattle.reader.proofs.Accepted.{Decided, taken, turned, read-decided, file-a
 use Rattle.reader.proofs.Found.{read-answered}
 use Rattle.reader.proofs.Only.{read-only, read-first-bytes}
 use Rattle.verdict.proofs.Buffer.{written-fits, written-front}
-use Rattle.report.specs.File.{fileText, WriteCall, unwritten, filled, writeAnswer}
+use Rattle.report.specs.File.{fileText, WriteCall, unwritten, wrote, writeAnswer}
+use Rattle.report.proofs.Answers.{Case, is17, is23, is24, isWritten, answerOf, case-answer}
+use Rattle.report.proofs.Answers.{case-found}
 use Rattle.checker.specs.inner.Computed.{afterWriting, writingAnswer}
 use Rattle.demands.specs.Writing.{IsWritten, RightWriting}
 use Rattle.demands.specs.Writing.RightWriting.{refused, tooLong, written as printed}
@@ -33,78 +35,35 @@ module _ (table : Table) (buffer : List ℕ) where
   abbrev text : List ℕ
   text = fileText table
 
-  -- What holds under each answer.
-  data Case : Type 0 where
-    is17 : tableValid table ≡ false → Case
-    is23 : tableValid table ≡ true → mostBytes < length text → Case
-    is24 : tableValid table ≡ true → length text ≤ mostBytes → length buffer < length text → Case
-    isWritten : tableValid table ≡ true → length text ≤ mostBytes → length text ≤ length buffer
-        → Case
-
-  abbrev answerOf : Case → WriteCall
-  answerOf (is17 fails) = unwritten 17 buffer
-  answerOf (is23 passes long) = unwritten 23 buffer
-  answerOf (is24 passes few short) = unwritten 24 buffer
-  answerOf (isWritten passes few room) = filled text buffer
-
-  case-answer : (case : Case) → writeAnswer table buffer ≡ answerOf case
-  unfolding writeAnswer
-  case-answer (is17 fails) = rw fails
-  case-answer (is23 passes long) = rw (passes, lt-ltb mostBytes (length text) long)
-  case-answer (is24 passes few short) =
-      rw (
-        passes,
-        le-ltb mostBytes (length text) few,
-        lt-ltb (length buffer) (length text) short,
-      )
-  case-answer (isWritten passes few room) =
-      rw (
-        passes,
-        le-ltb mostBytes (length text) few,
-        le-ltb (length buffer) (length text) room,
-      )
-
-  case-found : Case
-  case-found =
-      go (tableValid table) refl (decLt mostBytes (length text))
-      (decLt (length buffer) (length text))
-    where
-      go : (t : Bool) → tableValid table ≡ t → Dec (mostBytes < length text)
-          → Dec (length buffer < length text) → Case
-      go false e long short = is17 e
-      go true e (yes long) short = is23 e long
-      go true e (no long) (yes short) = is24 e (omega arith) short
-      go true e (no long) (no short) = isWritten e (omega arith) (omega arith)
-
   -- The number says which case it is.
   abbrev number : WriteCall → ℕ
   number call = numberOf (call .outcome)
 
   case-number : (call : WriteCall) → writeAnswer table buffer ≡ call
-      → number (answerOf case-found) ≡ number call
-  case-number call e = ap number (sym (case-answer case-found) ∙ e)
+      → number (answerOf table buffer (case-found table buffer)) ≡ number call
+  case-number call e = ap number (sym (case-answer table buffer (case-found table buffer)) ∙ e)
 
-  only-17 : (case : Case) → number (answerOf case) ≡ 17 → tableValid table ≡ false
+  only-17 : (case : Case table buffer) → number (answerOf table buffer case) ≡ 17 → tableValid table ≡ false
   only-17 (is17 fails) e = fails
   only-17 (is23 passes long) e = absurd (omega arith)
   only-17 (is24 passes few short) e = absurd (omega arith)
   only-17 (isWritten passes few room) e = absurd (omega arith)
 
-  only-23 : (case : Case) → number (answerOf case) ≡ 23
+  only-23 : (case : Case table buffer) → number (answerOf table buffer case) ≡ 23
       → (tableValid table ≡ true) × (mostBytes < length text)
   only-23 (is17 fails) e = absurd (omega arith)
   only-23 (is23 passes long) e = (passes, long)
   only-23 (is24 passes few short) e = absurd (omega arith)
   only-23 (isWritten passes few room) e = absurd (omega arith)
 
-  only-24 : (case : Case) → number (answerOf case) ≡ 24
+  only-24 : (case : Case table buffer) → number (answerOf table buffer case) ≡ 24
       → (tableValid table ≡ true) × (length text ≤ mostBytes) × (length buffer < length text)
   only-24 (is17 fails) e = absurd (omega arith)
   only-24 (is23 passes long) e = absurd (omega arith)
   only-24 (is24 passes few short) e = (passes, few, short)
   only-24 (isWritten passes few room) e = absurd (omega arith)
 
-  only-written : (case : Case) → number (answerOf case) ≡ 0
+  only-written : (case : Case table buffer) → number (answerOf table buffer case) ≡ 0
       → (tableValid table ≡ true) × (length text ≤ mostBytes) × (length text ≤ length buffer)
   only-written (is17 fails) e = absurd (omega arith)
   only-written (is23 passes long) e = absurd (omega arith)
@@ -113,54 +72,54 @@ module _ (table : Table) (buffer : List ℕ) where
 
   pub write-17 : (writeAnswer table buffer ≡ unwritten 17 buffer) ↔ (tableValid table ≡ false)
   write-17 = (
-    λ e. only-17 case-found (case-number (unwritten 17 buffer) e),
-    λ fails. case-answer (is17 fails),
+    λ e. only-17 (case-found table buffer) (case-number (unwritten 17 buffer) e),
+    λ fails. case-answer table buffer (is17 fails),
   )
 
   pub write-23 : (writeAnswer table buffer ≡ unwritten 23 buffer)
       ↔ ((tableValid table ≡ true) × (mostBytes < length text))
   write-23 = (
-    λ e. only-23 case-found (case-number (unwritten 23 buffer) e),
-    λ h. case-answer (is23 (h .0) (h .1)),
+    λ e. only-23 (case-found table buffer) (case-number (unwritten 23 buffer) e),
+    λ h. case-answer table buffer (is23 (h .0) (h .1)),
   )
 
   pub write-24 : (writeAnswer table buffer ≡ unwritten 24 buffer)
       ↔ ((tableValid table ≡ true) × (length text ≤ mostBytes) × (length buffer < length text))
   write-24 = (
-    λ e. only-24 case-found (case-number (unwritten 24 buffer) e),
-    λ h. case-answer (is24 (h .0) (h .1) (h .2)),
+    λ e. only-24 (case-found table buffer) (case-number (unwritten 24 buffer) e),
+    λ h. case-answer table buffer (is24 (h .0) (h .1) (h .2)),
   )
 
-  pub written-exactly : (writeAnswer table buffer ≡ filled text buffer)
+  pub written-exactly : (writeAnswer table buffer ≡ wrote text buffer)
       ↔ ((tableValid table ≡ true) × (length text ≤ mostBytes) × (length text ≤ length buffer))
   written-exactly = (
-    λ e. only-written case-found (case-number (filled text buffer) e),
-    λ h. case-answer (isWritten (h .0) (h .1) (h .2)),
+    λ e. only-written (case-found table buffer) (case-number (wrote text buffer) e),
+    λ h. case-answer table buffer (isWritten (h .0) (h .1) (h .2)),
   )
 
   pub write-one-of-four : (writeAnswer table buffer ≡ unwritten 17 buffer)
       ⊎ ((writeAnswer table buffer ≡ unwritten 23 buffer)
       ⊎ ((writeAnswer table buffer ≡ unwritten 24 buffer)
-      ⊎ (writeAnswer table buffer ≡ filled text buffer)))
-  write-one-of-four = go case-found
+      ⊎ (writeAnswer table buffer ≡ wrote text buffer)))
+  write-one-of-four = go (case-found table buffer)
     where
-      go : Case → (writeAnswer table buffer ≡ unwritten 17 buffer)
+      go : Case table buffer → (writeAnswer table buffer ≡ unwritten 17 buffer)
           ⊎ ((writeAnswer table buffer ≡ unwritten 23 buffer)
           ⊎ ((writeAnswer table buffer ≡ unwritten 24 buffer)
-          ⊎ (writeAnswer table buffer ≡ filled text buffer)))
-      go (is17 fails) = inl (case-answer (is17 fails))
-      go (is23 passes long) = inr (inl (case-answer (is23 passes long)))
-      go (is24 passes few short) = inr (inr (inl (case-answer (is24 passes few short))))
-      go (isWritten passes few room) = inr (inr (inr (case-answer (isWritten passes few room))))
+          ⊎ (writeAnswer table buffer ≡ wrote text buffer)))
+      go (is17 fails) = inl (case-answer table buffer (is17 fails))
+      go (is23 passes long) = inr (inl (case-answer table buffer (is23 passes long)))
+      go (is24 passes few short) = inr (inr (inl (case-answer table buffer (is24 passes few short))))
+      go (isWritten passes few room) = inr (inr (inr (case-answer table buffer (isWritten passes few room))))
 
   -- The lent buffer.
   pub write-unchanged : (n : ℕ) → numberOf (writeAnswer table buffer .outcome) ≡ suc n
       → writeAnswer table buffer .buffer ≡ buffer
   write-unchanged n e =
-      ap (λ (call : WriteCall). call .buffer) (case-answer case-found)
-      ∙ go case-found (case-number (writeAnswer table buffer) refl ∙ e)
+      ap (λ (call : WriteCall). call .buffer) (case-answer table buffer (case-found table buffer))
+      ∙ go (case-found table buffer) (case-number (writeAnswer table buffer) refl ∙ e)
     where
-      go : (case : Case) → number (answerOf case) ≡ suc n → answerOf case .buffer ≡ buffer
+      go : (case : Case table buffer) → number (answerOf table buffer case) ≡ suc n → answerOf table buffer case .buffer ≡ buffer
       go (is17 fails) e = refl
       go (is23 passes long) e = refl
       go (is24 passes few short) e = refl
@@ -171,7 +130,7 @@ module _ (table : Table) (buffer : List ℕ) where
       (take (call .length) (call .buffer) ≡ text)
       × (drop (call .length) (call .buffer) ≡ drop (call .length) buffer)
   written-behind e =
-      let h = only-written case-found
+      let h = only-written (case-found table buffer)
       (case-number (writeAnswer table buffer) refl ∙ ap numberOf e) in
       rw (written-exactly .1 h) (
         written-front text buffer (h .2),

@@ -18,7 +18,7 @@ use Rattle.reader.specs.Reading.{accepted}
 use Rattle.reader.specs.further.Witness.{Sized}
 use Rattle.reader.specs.inner.File.{readAnswer}
 use Rattle.reader.proofs.Sizes as Sizes
-use Rattle.report.specs.File.{conditionText, usedNames, fileText, unwritten, filled, writeAnswer}
+use Rattle.report.specs.File.{conditionText, usedNames, fileText, unwritten, wrote, writeAnswer}
 use Rattle.checker.specs.inner.Computed.{writingAnswer}
 use Rattle.demands.specs.Writing.{Writable, IsWritten, SameTable, RightWriting}
 use Rattle.demands.specs.further.Canonical.{IsConditionText}
@@ -115,14 +115,14 @@ module _ (table : Table) (buffer : List ℕ) where
       ↔ ((tableValid table ≡ true) × (length text ≤ mostBytes) × (length buffer < length text))
   write-24 = Texts.write-24 table buffer
 
-  pub written-exactly : (writeAnswer table buffer ≡ filled text buffer)
+  pub written-exactly : (writeAnswer table buffer ≡ wrote text buffer)
       ↔ ((tableValid table ≡ true) × (length text ≤ mostBytes) × (length text ≤ length buffer))
   written-exactly = Texts.written-exactly table buffer
 
   pub write-one-of-four : (writeAnswer table buffer ≡ unwritten 17 buffer)
       ⊎ ((writeAnswer table buffer ≡ unwritten 23 buffer)
       ⊎ ((writeAnswer table buffer ≡ unwritten 24 buffer)
-      ⊎ (writeAnswer table buffer ≡ filled text buffer)))
+      ⊎ (writeAnswer table buffer ≡ wrote text buffer)))
   write-one-of-four = Texts.write-one-of-four table buffer
 
   -- "The buffer is then unchanged. When the file is written, the answer gives its length and the

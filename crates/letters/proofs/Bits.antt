@@ -52,8 +52,12 @@ bit-injective a b e = sym (eqb-bit a) ∙ ap (λ (x : ℕ). eqb x 1) e ∙ eqb-b
 abbrev pub setSignals : ℕ
 setSignals = 6
 
+-- With no more of them a set can hold all letters.
+pub letters-few : (s : ℕ) → s ≤ setSignals → letters s ≤ setBits
+letters-few s few = pow-mono {i = s} {j = setSignals} few
+
 pub width-letters : (s : ℕ) → s ≤ setSignals → width s ≡ letters s
-width-letters s few = omega (arith, pow-mono {i = s} {j = setSignals} few)
+width-letters s few = omega (arith, letters-few s few)
 
 -- What the code's `1 << k` is.
 pub one-shifted : (k : ℕ) → k < setBits → (1 * 2 ^ k) % 2 ^ setBits ≡ 2 ^ k

@@ -7,7 +7,8 @@ pub mod Padding
 pub mod Bits
 pub mod Sets
 pub mod Lowest
-pub mod Members
--- Alike: two letters that agree at each signal. Described: what the members of a set are.
+-- Alike: two letters that agree at each signal. Described: what the members of a set are. Members:
+-- one after the other.
 pub mod Alike
 pub mod Described
+pub mod Members

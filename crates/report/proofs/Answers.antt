@@ -1,49 +1,61 @@
--- The four answers of a call that writes a table, each by its tests. Assumes nothing.
+-- The four answers of a call that writes a table: which comes in which case, and that some case
+-- there is. Assumes nothing.
 use Prim.Native.Nat.{ℕ, _<_, _≤_}
 use borrow.Author.Tests.{lt-ltb, le-ltb}
-use mathlib.Core.Bool.{true, false}
+use native.Mathlib.Decide.{decLt}
+use native.Mathlib.Omega.{arith}
+use mathlib.Core.Bool.{Bool, true, false}
 use mathlib.Core.List.{List}
-use mathlib.Core.Path.{_≡_}
+use mathlib.Core.Path.{_≡_, refl}
 use lib.ListN.{length}
 use Rattle.table.specs.Limits.{mostBytes}
 use Rattle.table.specs.Valid.{tableValid}
-use Rattle.table.specs.declared.Outcome.the-variants.{Accepted}
 use Rattle.table.specs.declared.Table.{Table}
-use Rattle.verdict.specs.Buffer.{written}
-use Rattle.report.specs.File.{fileText, WriteCall, unwritten, writeAnswer}
+use Rattle.report.specs.File.{fileText, WriteCall, unwritten, wrote, writeAnswer}
 
 module _ (table : Table) (buffer : List ℕ) where
-  pub turned-down : tableValid table ≡ false → writeAnswer table buffer ≡ unwritten 17 buffer
+  abbrev text : List ℕ
+  text = fileText table
+
+  -- What holds under each answer.
+  pub data Case : Type 0 where
+    is17 : tableValid table ≡ false → Case
+    is23 : tableValid table ≡ true → mostBytes < length text → Case
+    is24 : tableValid table ≡ true → length text ≤ mostBytes → length buffer < length text → Case
+    isWritten : tableValid table ≡ true → length text ≤ mostBytes → length text ≤ length buffer
+        → Case
+
+  abbrev pub answerOf : Case → WriteCall
+  answerOf (is17 fails) = unwritten 17 buffer
+  answerOf (is23 passes long) = unwritten 23 buffer
+  answerOf (is24 passes few short) = unwritten 24 buffer
+  answerOf (isWritten passes few room) = wrote text buffer
+
+  pub case-answer : (case : Case) → writeAnswer table buffer ≡ answerOf case
   unfolding writeAnswer
-  turned-down e = rw e
+  case-answer (is17 fails) = rw fails
+  case-answer (is23 passes long) = rw (passes, lt-ltb mostBytes (length text) long)
+  case-answer (is24 passes few short) =
+      rw (
+        passes,
+        le-ltb mostBytes (length text) few,
+        lt-ltb (length buffer) (length text) short,
+      )
+  case-answer (isWritten passes few room) =
+      rw (
+        passes,
+        le-ltb mostBytes (length text) few,
+        le-ltb (length buffer) (length text) room,
+      )
 
-  module _ (passes : tableValid table ≡ true) where
-    pub too-long : mostBytes < length (fileText table)
-        → writeAnswer table buffer ≡ unwritten 23 buffer
-    unfolding writeAnswer
-    too-long long = rw (passes, lt-ltb mostBytes (length (fileText table)) long)
-
-    module _ (few : length (fileText table) ≤ mostBytes) where
-      pub too-short : length buffer < length (fileText table)
-          → writeAnswer table buffer ≡ unwritten 24 buffer
-      unfolding writeAnswer
-      too-short short =
-          rw (
-            passes,
-            le-ltb mostBytes (length (fileText table)) few,
-            lt-ltb (length buffer) (length (fileText table)) short,
-          )
-
-      pub all-written : length (fileText table) ≤ length buffer
-          → writeAnswer table buffer ≡ record {
-            outcome = Accepted;
-            length = length (fileText table);
-            buffer = written (fileText table) buffer;
-          }
-      unfolding writeAnswer
-      all-written fits =
-          rw (
-            passes,
-            le-ltb mostBytes (length (fileText table)) few,
-            le-ltb (length buffer) (length (fileText table)) fits,
-          )
+  pub case-found : Case
+  case-found =
+      go (tableValid table) refl (decLt mostBytes (length text))
+      (decLt (length buffer) (length text))
+    where
+      go : (t : Bool) → tableValid table ≡ t → Dec (mostBytes < length text)
+          → Dec (length buffer < length text) → Case
+      go false e long short = is17 e
+      go true e (yes long) short = is23 e long
+      go true e (no long) (yes short) = is24 e (omega arith) short
+      go true e (no long) (no short) = isWritten e (omega arith) (omega arith)

@@ -80,8 +80,8 @@ abbrev pub unwritten : ℕ → List ℕ → WriteCall
 unwritten number buffer = record { outcome = refusedAt number 0; length = 0; buffer = buffer }
 
 -- "When the file is written, the answer gives its length and the bytes behind it are unchanged."
-abbrev pub filled : List ℕ → List ℕ → WriteCall
-filled text buffer =
+abbrev pub wrote : List ℕ → List ℕ → WriteCall
+wrote text buffer =
     record { outcome = Accepted; length = length text; buffer = written text buffer }
 
 unfoldable pub writeAnswer : Table → List ℕ → WriteCall
@@ -89,4 +89,4 @@ writeAnswer table buffer =
     let text = fileText table in
     cond (not (tableValid table)) (unwritten 17 buffer)
     (cond (ltb mostBytes (length text)) (unwritten 23 buffer)
-    (cond (ltb (length buffer) (length text)) (unwritten 24 buffer) (filled text buffer)))
+    (cond (ltb (length buffer) (length text)) (unwritten 24 buffer) (wrote text buffer)))

@@ -10,8 +10,9 @@ use mathlib.Core.Path.{_≡_, sym, ap, _∙_}
 use lib.Bits.{bitAnd}
 use lib.ListN.{length}
 use Rattle.letters.specs.Letter.{letters, members, setOf}
-use Rattle.letters.proofs.Members.{width-all, letters-few, kept, kept-low, kept-members, kept-none}
-use Rattle.letters.proofs.Members.{kept-some, kept-all, kept-full}
+use Rattle.letters.proofs.Bits.{width-letters}
+use Rattle.letters.proofs.Members.{allLetters, kept, kept-low, kept-members, kept-none, none-kept}
+use Rattle.letters.proofs.Members.{kept-all, all-kept}
 use Rattle.table.specs.declared.Name.{Name}
 use Rattle.text.specs.Lines.{joined}
 use Rattle.text.specs.Words.{falseSign, trueSign, orSign}
@@ -21,50 +22,39 @@ use Rattle.report.proofs.Puts.{puts-length}
 use Rattle.report.proofs.file.put_condition.Statement.{statement}
 use Rattle.report.proofs.file.put_condition.Tie as tie
 
--- The set of all letters.
-abbrev allLetters : ℕ → ℕ
-allLetters s = setOf (letters s) (λ _. true)
+module _ (names : List Name) (s set : ℕ) {held : ℕ} (is : held ≡ kept set s) where
+  abbrev many : ℕ
+  many = length (members (letters s) 0 set)
 
-module _ (names : List Name) (s set : ℕ) {held : ℕ} (is : held ≡ kept set (letters s)) where
   none-text : held ≡ 0 → conditionText names s set ≡ falseSign ∷ []
   unfolding conditionText
-  none-text e = rw (eq-eqb (length (members (letters s) 0 set)) 0 (kept-none set (letters s)
-      (rw is at e)))
+  none-text e = rw (eq-eqb many 0 (kept-none set s (sym is ∙ e)))
 
-  module _ (named : Named s) (other : held ≡ 0 → ⊥) where
-    some-kept : 0 < kept set (letters s)
-    some-kept = rw is at (let some : 0 < held = omega arith in some)
-
-    some-length : length (members (letters s) 0 set) ≡ 0 → ⊥
-    some-length e =
-        omega (arith, kept-some set (letters s) (letters-few s (named .few)) some-kept)
+  module _ (other : held ≡ 0 → ⊥) where
+    some-held : many ≡ 0 → ⊥
+    some-held e = other (is ∙ none-kept set s e)
 
     all-text : held ≡ allLetters s → conditionText names s set ≡ trueSign ∷ []
     unfolding conditionText
     all-text e =
-        let many = length (members (letters s) 0 set) in
-        rw (
-          ne-eqb many 0 some-length,
-          eq-eqb many (letters s) (kept-all set (letters s) (rw is at e)),
-        )
+        rw (ne-eqb many 0 some-held, eq-eqb many (letters s) (kept-all set s (sym is ∙ e)))
 
     terms-text : (held ≡ allLetters s → ⊥) → conditionText names s set
         ≡ joined orSign (map (termText names) (members (letters s) 0 held))
     unfolding conditionText
     terms-text part =
-        let many = length (members (letters s) 0 set) in
         rw (
-          ne-eqb many 0 some-length,
-          ne-eqb many (letters s) (λ e. part (is ∙ kept-full set (letters s) e)),
+          ne-eqb many 0 some-held,
+          ne-eqb many (letters s) (λ e. part (is ∙ all-kept set s e)),
           is,
-          kept-members set (letters s),
+          kept-members set s,
         )
 
-    held-right : Held s held
-    held-right = record {
+    held-right : Named s → Held s held
+    held-right named = record {
       named = named;
       some = omega arith;
-      low = rw is (kept-low set (letters s));
+      low = rw is (kept-low set s);
     }
 
 -- The places of the function: its start, and what the set is cut by.
@@ -74,10 +64,10 @@ started c = c .before .before
 all-is : (c : tie.After-all) → c .all .result ≡ allLetters (started c .args .signals)
 all-is c =
     c .all .ensures
-    ∙ ap (λ (n : ℕ). setOf n (λ _. true)) (width-all _ (started c .pre .1 .few))
+    ∙ ap (λ (n : ℕ). setOf n (λ _. true)) (width-letters _ (started c .pre .1 .few))
 
 held-is : (c : tie.After-all) → let args = started c .args in
-    bitAnd (args .set) (c .all .result) ≡ kept (args .set) (letters (args .signals))
+    bitAnd (args .set) (c .all .result) ≡ kept (args .set) (args .signals)
 held-is c = ap (bitAnd (started c .args .set)) (all-is c)
 
 returns : tie.Need-returns
@@ -93,7 +83,7 @@ returns-2 c =
     let test = byte .before .before in
     let none = test .before in
     let all = none .before in
-    rw (all-text _ _ _ (held-is all) (started all .pre .1) (none .if1 .left)
+    rw (all-text _ _ _ (held-is all) (none .if1 .left)
     (test .if2 .taken ∙ all-is all))
     (byte .byte2 .ensures, omega (arith, byte .byte2 .ensures .next-is))
 
@@ -103,8 +93,8 @@ put-terms-requires c κs =
     let all = none .before in
     let start = started all in (
       start .pre .0,
-      held-right [] (start .args .signals) (start .args .set) (held-is all) (start .pre .1)
-          (none .if1 .left),
+      held-right [] (start .args .signals) (start .args .set) (held-is all) (none .if1 .left)
+          (start .pre .1),
     )
 
 returns-3 : tie.Need-returns-3
@@ -113,7 +103,7 @@ returns-3 c =
     let test = terms .before .before in
     let none = test .before in
     let all = none .before in
-    rw (terms-text _ _ _ (held-is all) (started all .pre .1) (none .if1 .left)
+    rw (terms-text _ _ _ (held-is all) (none .if1 .left)
     (λ e. test .if2 .left (e ∙ sym (all-is all))))
     (terms .put-terms .ensures)
 

@@ -11,9 +11,9 @@ use mathlib.Core.Path.{_≡_, sym, _∙_}
 use lib.ListN.{take}
 use Rattle.letters.specs.Letter.{letters, inSet, setBits, members}
 use Rattle.letters.specs.inner.Least.{leastIn}
-use Rattle.letters.proofs.Bits.{setSignals}
-use Rattle.letters.proofs.Members.{members-next, members-skip, members-end, width-all}
-use Rattle.letters.proofs.Members.{letters-few, least-below, members-least}
+use Rattle.letters.proofs.Bits.{letters-few, width-letters}
+use Rattle.letters.proofs.Members.{members-next, members-skip, members-end, least-below}
+use Rattle.letters.proofs.Members.{members-least}
 use Rattle.table.specs.declared.Name.{Name}
 use Rattle.text.specs.Lines.{joined}
 use Rattle.text.specs.Words.{orSign}
@@ -123,7 +123,7 @@ first c = c .before .before .before
 -- The width is that of all letters, which are at most 64, and the least letter is one of them.
 width-is : (c : tie.After-width-of Inv-loop μ-loop)
     → c .width-of .result ≡ letters (started c .args .signals)
-width-is c = c .width-of .ensures ∙ width-all _ (started c .pre .1 .named .few)
+width-is c = c .width-of .ensures ∙ width-letters _ (started c .pre .1 .named .few)
 
 few-letters : (c : tie.Start Inv-loop μ-loop) → letters (c .args .signals) ≤ setBits
 few-letters c = letters-few _ (c .pre .1 .named .few)

@@ -15,7 +15,7 @@ use Rattle.table.proofs.Laws.{tableValid-signals}
 use Rattle.report.specs.declared.file.Written.{Written}
 use Rattle.report.specs.inner.Writing.{Named, notWritten}
 use Rattle.report.specs.File.{fileText, WriteCall, unwritten}
-use Rattle.report.proofs.Answers.{turned-down, too-long, too-short, all-written}
+use Rattle.report.proofs.Answers.{is17, is23, is24, isWritten, case-answer}
 use Rattle.report.proofs.Puts.{puts-written, puts-length}
 use Rattle.report.proofs.file.write.Statement.{statement}
 use Rattle.report.proofs.file.write.Tie as tie
@@ -55,7 +55,7 @@ returns : tie.Need-returns
 returns c =
     let test = c .before in
     refused-call (c .refused .ensures)
-    (turned-down _ _ (sym (test .before .valid .ensures) ∙ not-true _ (test .if1 .taken)))
+    (case-answer _ _ (is17 (sym (test .before .valid .ensures) ∙ not-true _ (test .if1 .taken))))
 
 put-file-requires : tie.Need-put-file-requires
 put-file-requires c κs = signals-named _ (passes (c .before))
@@ -65,15 +65,15 @@ returns-2 c =
     let test = c .before in
     let put = test .before in
     refused-call (c .refused2 .ensures)
-    (too-long _ _ (passes (tested put)) (omega (arith, test .if2 .taken, long put)))
+    (case-answer _ _ (is23 (passes (tested put)) (omega (arith, test .if2 .taken, long put))))
 
 returns-3 : tie.Need-returns-3
 returns-3 c =
     let test = c .before in
     let put = test .before .before in
     refused-call (c .refused3 .ensures)
-    (too-short _ _ (passes (tested put)) (omega (arith, test .before .if2 .left, long put))
-    (omega (arith, test .if3 .taken, long put)))
+    (case-answer _ _ (is24 (passes (tested put)) (omega (arith, test .before .if2 .left, long put))
+    (omega (arith, test .if3 .taken, long put))))
 
 put-file-requires-2 : tie.Need-put-file-requires-2
 put-file-requires-2 c κs = signals-named _ (passes (tested (c .before .before .before)))
@@ -85,8 +85,8 @@ returns-4 c =
     let put = test .before .before in
     let args = tested put .before .before .before .args in
     written-call (long put) (puts-written (last .put-file2 .ensures) .1)
-    (all-written (args .table) (args .out .now) (passes (tested put))
-    (omega (arith, test .before .if2 .left, long put)) (omega (arith, test .if3 .left, long put)))
+    (case-answer (args .table) (args .out .now) (isWritten (passes (tested put))
+    (omega (arith, test .before .if2 .left, long put)) (omega (arith, test .if3 .left, long put))))
 
 pub write-spec : {M : Type 1} → statement M
 write-spec =
