@@ -279,9 +279,9 @@ pub fn write(table: Table, out: &mut [u8]) -> Written
     if out.len() < length {
         return refused(24);
     }
-    put_file(out, table);
+    let end = put_file(out, table);
     Written {
         outcome: Outcome::Accepted,
-        length,
+        length: end,
     }
 }

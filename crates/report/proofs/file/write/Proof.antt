@@ -84,7 +84,8 @@ returns-4 c =
     let test = last .before .before in
     let put = test .before .before in
     let args = tested put .before .before .before .args in
-    written-call (long put) (puts-written (last .put-file2 .ensures) .1)
+    let file = puts-written (last .put-file2 .ensures) in
+    written-call (file .0) (file .1)
     (case-answer (args .table) (args .out .now) (isWritten (passes (tested put))
     (omega (arith, test .before .if2 .left, long put)) (omega (arith, test .if3 .left, long put))))
 
