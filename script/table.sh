@@ -1,7 +1,7 @@
-# What ./checktable and ./loadtable share; each sources it. The script has set
+# What ./checktable, ./loadtable and ./writetable share; each sources it. The script has set
 #   root        the repository's folder
 #   name        its own name, which is also that of the program behind it
-#   text, was   what the program prints, "report" or "totals", and the verb behind it
+#   text, was   what the program prints, "report", "totals" or "file", and the verb behind it
 # and has a function `usage`, which says how it is called. The program is proved and built first where it is missing or older
 # than its source, which takes some minutes the first time; progress is on standard error.
 program=$root/target/bin/$name
