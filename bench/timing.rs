@@ -1,11 +1,12 @@
-//! Times `checktable` and `loadtable` against `plain` and prints markdown. Every run is a process of its own,
-//! timed from its start to its end, with the table as standard input and a file as standard output. The programs
-//! take turns, so that what else the machine does falls on both. It stops where the two do not print the same.
+//! Times `checktable`, `loadtable` and `writetable` against `plain` and prints markdown. Every run is a process of
+//! its own, timed from its start to its end, with the table as standard input and a file as standard output. The
+//! programs take turns, so that what else the machine does falls on both. It stops where the two do not print the
+//! same.
 //!
-//!     timing RUNS FOLDER CHECKTABLE LOADTABLE PLAIN NOTHING TABLE... -- TABLE...
+//!     timing RUNS FOLDER CHECKTABLE LOADTABLE WRITETABLE PLAIN NOTHING TABLE... -- TABLE... -- TABLE...
 //!
 //! FOLDER takes reports and the tables that are made here; NOTHING is a program that does nothing. The tables
-//! after `--` are run by `loadtable` alone.
+//! after the first `--` are run by `loadtable` alone, those after the second by `writetable` alone.
 
 use std::fs::{self, File};
 use std::path::{Path, PathBuf};
@@ -23,6 +24,9 @@ const PASSES: usize = 4;
 const GOAL_RATIO: f64 = 1.0;
 const GOAL_TIME: f64 = 10.0;
 
+/// The goal of `writetable`: with its start it takes less than so many milliseconds.
+const GOAL_WRITE: f64 = 5.0;
+
 /// A program, with the word that it is started with, if any.
 struct Program {
     path: PathBuf,
@@ -31,7 +35,7 @@ struct Program {
 
 struct Bench {
     runs: usize,
-    /// The product's program, `checktable` or `loadtable`, and the unverified one.
+    /// The product's program, `checktable`, `loadtable` or `writetable`, and the unverified one.
     ours: Program,
     plain: Program,
     /// A file of no bytes, where reports go, and where tables that are made here go.
@@ -292,8 +296,9 @@ fn print_tables(all: &[Measured]) {
     }
 }
 
-fn print_loads(all: &[Measured]) {
-    print!("\nThe load, 1,000 ticks:\n\n| Table | Letters | Rows | loadtable best | median ");
+/// The tables that a program other than `checktable` was run on.
+fn print_runs(title: &str, program: &str, all: &[Measured]) {
+    print!("\n{title}\n\n| Table | Letters | Rows | {program} best | median ");
     println!("| plain best | median | Ratio | Less start |\n|-|-|-|-|-|-|-|-|-|");
     for one in all {
         let (ours, theirs) = (&one.ours, &one.plain);
@@ -337,15 +342,23 @@ fn print_goal(all: &[&Measured]) {
     println!("Largest ratio less start {ratio:.2} ({name}), largest best time {time:.2} ms ({slowest}).");
 }
 
+/// One line: whether `writetable` meets its goal, and its largest time.
+fn print_write_goal(all: &[Measured]) {
+    let [_, (time, slowest)] = largest(&all.iter().collect::<Vec<_>>());
+    let met = if time < GOAL_WRITE { "met" } else { "not met" };
+    println!("\nGoal of {GOAL_WRITE} ms for `writetable`: {met}. Largest best time {time:.2} ms ({slowest}).");
+}
+
 fn main() {
     let words: Vec<String> = std::env::args().skip(1).collect();
-    let [runs, folder, checktable, loadtable, plain, nothing, tables @ ..] = &words[..] else {
-        fail("usage: timing RUNS FOLDER CHECKTABLE LOADTABLE PLAIN NOTHING TABLE... -- TABLE...".into());
+    let [runs, folder, checktable, loadtable, writetable, plain, nothing, tables @ ..] = &words[..] else {
+        let programs = "CHECKTABLE LOADTABLE WRITETABLE PLAIN NOTHING";
+        fail(format!("usage: timing RUNS FOLDER {programs} TABLE... -- TABLE... -- TABLE..."));
     };
     let runs = runs.parse().ok().filter(|&runs| runs > 0);
     let runs = runs.unwrap_or_else(|| fail("RUNS is a number from 1 on".into()));
     let mut parts = tables.split(|word| word == "--");
-    let (tables, loads) = (parts.next().unwrap_or_default(), parts.next().unwrap_or_default());
+    let [tables, loads, writes] = [(); 3].map(|_| parts.next().unwrap_or_default());
     let folder = Path::new(folder);
     let program = |path: &String, word| Program { path: path.into(), word };
     let beside = |ours: &String, word| Bench {
@@ -357,20 +370,22 @@ fn main() {
         made: folder.join("made.pnp"),
     };
     let (bench, load) = (beside(checktable, None), beside(loadtable, Some("load")));
+    let writer = beside(writetable, Some("write"));
     write(&bench.empty, "");
     let pass = || -> Vec<Vec<Measured>> {
         let start = vec![bench.measure(&bench.empty)];
         let growth = [bench.by_states(), bench.by_doomed(), bench.by_letters(), bench.by_apart(), bench.by_rows()];
         let tables = tables.iter().map(|table| bench.measure(table.as_ref())).collect();
         let loads = loads.iter().map(|table| load.measure(table.as_ref())).collect();
-        [start, loads, tables].into_iter().chain(growth).collect()
+        let writes = writes.iter().map(|table| writer.measure(table.as_ref())).collect();
+        [start, loads, writes, tables].into_iter().chain(growth).collect()
     };
     let mut all = pass();
     for _ in 1..PASSES {
         let more = all.into_iter().zip(pass());
         all = more.map(|(one, other)| one.into_iter().zip(other).map(|(a, b)| a.with(b)).collect()).collect();
     }
-    let [start, loads, measured, growth @ ..] = &all[..] else { return };
+    let [start, loads, writes, measured, growth @ ..] = &all[..] else { return };
 
     println!("Milliseconds, with the start of the process; {} runs of each program on each table.\n", PASSES * runs);
     println!("| Start alone | Best | Median |\n|-|-|-|");
@@ -392,7 +407,9 @@ fn main() {
     for (title, all) in titles.iter().zip(growth) {
         print_growth(title, all);
     }
-    print_loads(loads);
+    print_runs("The load, 1,000 ticks:", "loadtable", loads);
+    print_runs("`writetable`:", "writetable", writes);
+    print_write_goal(writes);
     let all: Vec<&Measured> = measured.iter().chain(growth.iter().flatten()).collect();
     print_goal(&all);
 }
