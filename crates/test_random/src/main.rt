@@ -1,7 +1,8 @@
 // Searches random tables and compares the answer, and every place of the lent lists, with those of
 // a second search (second.rt). Ticks them along random traces, and compares phases and events with
 // a second reading of the rules (watched.rt). Runs them under random loads, and compares the totals
-// (loads.rt). Prints how many tables agreed, and what kinds of answers there were.
+// (loads.rt). Writes them, reads them back and writes them again (written.rt). Prints how many
+// tables agreed, and what kinds of answers there were.
 mod again;
 mod compare;
 mod counts;
@@ -23,6 +24,7 @@ mod starts;
 mod strike;
 mod tally;
 mod watched;
+mod written;
 
 use compare::compare_answers;
 use compare::compare_lists;
@@ -54,6 +56,10 @@ use tally::print;
 use tally::reported;
 use verdict::Found;
 use watched::follow;
+use written::Files;
+use written::no_files;
+use written::print_files;
+use written::try_file;
 
 const TABLES: u64 = 10000;
 
@@ -144,10 +150,19 @@ fn run(number: u64, tally: Tally) -> Tally {
     attempt(seed, table, true, solved, &answer, tally)
 }
 
+// Makes the same table, and writes it.
+fn run_file(number: u64, files: Files) -> Files {
+    let seed = mixed(SEED ^ number);
+    try_file(seed ^ 8, any_table(seed ^ 1), files)
+}
+
 fn main() {
     let mut tally = none();
+    let mut files = no_files();
     for number in 0..TABLES {
         tally = run(number, tally);
+        files = run_file(number, files);
     }
     print(tally);
+    print_files(files);
 }

@@ -168,11 +168,8 @@ fn any_scale(seed: u64, count: u8) -> u8 {
     scales[(byte_below(seed, 10) % 10) as usize]
 }
 
-// A table that number 17 lets by: mostly 1 to 3 signals and 1 to 4 rows, now and then more.
-pub fn any_table(seed: u64) -> Table {
-    let own = mixed(seed);
-    let few = 1 + (own % 3) as u8;
-    let signals = if one_in(own ^ 1, 24) { 3 + few } else { few };
+// A table with so many signals that number 17 lets by: mostly 1 to 4 rows, now and then more.
+fn table_with(own: u64, signals: u8) -> Table {
     let less = 1 + (own / 3 % 4) as u8;
     let count = if one_in(own ^ 2, 24) { 4 + less } else { less };
     let scale = any_scale(own ^ 3, count);
@@ -184,4 +181,18 @@ pub fn any_table(seed: u64) -> Table {
         count,
         rows,
     }
+}
+
+// One with mostly 1 to 3 signals, now and then more.
+pub fn any_table(seed: u64) -> Table {
+    let own = mixed(seed);
+    let few = 1 + (own % 3) as u8;
+    let signals = if one_in(own ^ 1, 24) { 3 + few } else { few };
+    table_with(own, signals)
+}
+
+// One with 4 to 6 signals.
+pub fn wide_table(seed: u64) -> Table {
+    let own = mixed(seed);
+    table_with(own, 4 + (own % 3) as u8)
 }

@@ -87,7 +87,7 @@ pub fn none() -> Tally {
     }
 }
 
-fn one_more_if(n: usize, yes: bool) -> usize {
+pub(crate) fn one_more_if(n: usize, yes: bool) -> usize {
     if yes { one_more(n) } else { n }
 }
 
@@ -112,7 +112,7 @@ pub(crate) fn print_line(text: &[u8], n: usize, number: usize) {
 }
 
 // Prints what differs in a table, and its number, unless nothing differs.
-fn print_difference(bits: u32, number: usize) {
+pub(crate) fn print_difference(bits: u32, number: usize) {
     if bits == 0 {
         return;
     }
@@ -120,15 +120,16 @@ fn print_difference(bits: u32, number: usize) {
         states #predecessors #letters #lost numbers #trace #\
         the walk's lost numbers #a changed place #a watcher's refusal #\
         phases #events #event counts #rows that never fire #a load's refusal #totals #\
+        a writer's refusal #the table read back #a file #the second table's file #\
         differ in table #";
     let mut left = bits;
-    for n in 0..19 {
+    for n in 0..23 {
         if left % 2 == 1 {
             print_word(text, n);
         }
         left = left / 2;
     }
-    print_line(text, 19, number);
+    print_line(text, 23, number);
 }
 
 // The tally with a table whose place was changed, and whether the comparison noticed it.

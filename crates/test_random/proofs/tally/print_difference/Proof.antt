@@ -10,7 +10,7 @@ abbrev Inv-loop : tie.InvT-loop
 Inv-loop bits number text left₀ n₀ left n = Unit {0}
 
 abbrev μ-loop : tie.MeasureT-loop
-μ-loop bits number text left₀ n₀ left n = 19 - n
+μ-loop bits number text left₀ n₀ left n = 23 - n
 
 pub print-difference-spec : {M : Type 1} → statement M
 print-difference-spec =
