@@ -18,7 +18,6 @@ use Rattle.reader.specs.inner.File.{readAnswer}
 use Rattle.reader.proofs.Accepted.{Decided, taken, turned, read-decided}
 use Rattle.reader.proofs.Valid.{file-valid}
 use Rattle.verdict.specs.Buffer.{written}
-use Rattle.verdict.proofs.Buffer.{written-length}
 use Rattle.report.specs.Report.{refusedText}
 use Rattle.report.specs.File.{fileText, WriteCall, unwritten, wrote, writeAnswer}
 use Rattle.report.proofs.Answers.{is23, isWritten, case-answer}
@@ -109,12 +108,3 @@ writing-short bytes = go (read-decided bytes)
     go (taken table file e) = rw e (table-short table)
     go (turned number line one small low e) =
         rw e (refused-short number line (omega arith) (omega arith))
-
--- So it is whole in a buffer of as many bytes.
-pub writing-fits : (bytes out : List ℕ) {exit : List ℕ} {n : ℕ} → length out ≡ mostBytes
-    → n ≡ length (writingAnswer bytes) → exit ≡ written (writingAnswer bytes) out
-    → n ≤ length exit
-writing-fits bytes out room e kept =
-    let short = writing-short bytes in
-    let long = written-length (writingAnswer bytes) out (omega arith) in
-    omega (arith, ap length kept)

@@ -5,7 +5,7 @@ use Prim.Native.Nat.{_≤_}
 use mathlib.Core.List.{[], _∷_}
 use mathlib.Core.Path.{_≡_, refl}
 use lib.ListN.{length}
-use Rattle.letters.specs.Letter.{bitAt, setOf}
+use Rattle.letters.specs.Letter.{bitAt, setOf, members}
 use Rattle.letters.specs.Lists.{every, some, sameBytes}
 use Rattle.table.specs.Name.{nameRun, allDistinct}
 use Rattle.text.specs.Bounds.{digits, decimal}
@@ -22,7 +22,7 @@ use Rattle.reader.proofs.Accepted.{accepted-file}
 use Rattle.reader.proofs.Valid.{file-valid}
 use Rattle.verdict.proofs.Buffer.{written-front}
 use Rattle.search.specs.Lent.{Lent, roomOf}
-use Rattle.report.specs.Report.{signalValues, tickLines, rowNumbers, spacedOrDash}
+use Rattle.report.specs.Report.{signalValues, tickLines, spacedOrDash}
 use Rattle.report.specs.Report.{reportLines}
 use Rattle.checker.specs.inner.Computed.{checkAnswer}
 use Rattle.demands.specs.examples.Cases.{P, Q, S, report, delayed}
@@ -47,7 +47,7 @@ boards-read = (
 
 pub whole-report : (lent : Lent) → 2 ≤ roomOf lent → 1 ≤ length (lent .trace)
     → checkAnswer (fileOf (textP ∷ textNotC ∷ [])) lent .report ≡ wholeOutput
-unfolding checkAnswer reportLines tickLines signalValues decimal digits bitAt rowNumbers
+unfolding checkAnswer reportLines tickLines signalValues decimal digits bitAt members
     spacedOrDash
 whole-report lent room short =
     let file = boards-read .4 in

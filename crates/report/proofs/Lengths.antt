@@ -2,10 +2,10 @@
 use Prim.Native.Nat.{ℕ, zero, suc, _+_, _*_, _^_, _<_, _≤_}
 use native.Mathlib.Omega.{arith}
 use mathlib.Core.Bool.{Bool, true, false, cond}
-use mathlib.Core.List.{List, [], _∷_, _++_}
+use mathlib.Core.List.{List, [], _∷_, _++_, map}
 use mathlib.Core.Path.{_≡_, refl, ap}
 use lib.ListN.{length, take, length-append, length-take}
-use Rattle.letters.specs.Letter.{bitAt}
+use Rattle.letters.specs.Letter.{bitAt, members}
 use Rattle.text.specs.Bytes.{bytes}
 use Rattle.text.specs.Bounds.{decimal}
 use Rattle.text.specs.Lines.{LF, ended}
@@ -63,13 +63,13 @@ or-dash-length (number ∷ more) = omega arith
 module _ (k most : ℕ) (enough : k + 2 ≤ most) (set : ℕ) where
   numbers-length : (n r : ℕ) → r + n < 10 ^ suc k
       → length (spaced (rowNumbers n r set)) ≤ n * most
-  unfolding rowNumbers spaced
+  unfolding members spaced
   numbers-length zero r low = omega arith
   numbers-length (suc n) r low =
-      go (bitAt set r) (rowNumbers n (suc r) set) (numbers-length n (suc r) (omega arith))
+      go (bitAt set r) (members n (suc r) set) (numbers-length n (suc r) (omega arith))
     where
-      go : (b : Bool) (later : List ℕ) → length (spaced later) ≤ n * most
-          → length (spaced (cond b (suc r ∷ later) later)) ≤ suc n * most
+      go : (b : Bool) (later : List ℕ) → length (spaced (map suc later)) ≤ n * most
+          → length (spaced (map suc (cond b (r ∷ later) later))) ≤ suc n * most
       go true later others =
           let few = decimal-length k (suc r) (omega arith) in rw length-append (omega arith)
       go false later others = omega arith

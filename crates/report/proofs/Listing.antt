@@ -5,12 +5,12 @@ use Prim.Native.Nat.{ℕ, zero, suc, _+_, _^_, _<_}
 use native.Mathlib.Nat.{zero-add}
 use native.Mathlib.Omega.{arith}
 use mathlib.Core.Bool.{Bool, true, false, cond}
-use mathlib.Core.List.{List, [], _∷_, _++_, append-nil, append-cancel-left}
+use mathlib.Core.List.{List, [], _∷_, _++_, map, append-nil, append-cancel-left}
 use mathlib.Core.List.{head-eq-of-cons-eq, tail-eq-of-cons-eq}
 use mathlib.Core.Path.{_≡_, refl, sym, ap, ap₂, _∙_}
 use lib.Dec.{eqb}
 use lib.ListN.{length}
-use Rattle.letters.specs.Letter.{bitAt}
+use Rattle.letters.specs.Letter.{bitAt, members}
 use Rattle.letters.specs.Lists.{within}
 use Rattle.letters.proofs.Sets.{set-ext}
 use Rattle.text.specs.Bounds.{decimal}
@@ -72,32 +72,33 @@ or-dash-injective (x ∷ xs) (y ∷ ys) e = spaced-injective (x ∷ xs) (y ∷ y
 -- Numbers that are the same are of the same rows: those of the later rows are larger.
 numbers-larger : (n r set first : ℕ) (more : List ℕ) → rowNumbers n r set ≡ first ∷ more
     → r < first
-unfolding rowNumbers
+unfolding members
 numbers-larger zero r set first more e = absurd (omega (arith, ap length e))
 numbers-larger (suc n) r set first more e =
-    go (bitAt set r) (rowNumbers n (suc r) set) (numbers-larger n (suc r) set first more) e
+    go (bitAt set r) (members n (suc r) set) (numbers-larger n (suc r) set first more) e
   where
-    go : (b : Bool) (later : List ℕ) → (later ≡ first ∷ more → suc r < first)
-        → cond b (suc r ∷ later) later ≡ first ∷ more → r < first
+    go : (b : Bool) (later : List ℕ) → (map suc later ≡ first ∷ more → suc r < first)
+        → map suc (cond b (r ∷ later) later) ≡ first ∷ more → r < first
     go true later ih e = omega (arith, head-eq-of-cons-eq e)
     go false later ih e = omega (arith, ih e)
 
 module _ (x y : ℕ) where
   first-same : (n r : ℕ) → rowNumbers (suc n) r x ≡ rowNumbers (suc n) r y
       → (bitAt x r ≡ bitAt y r) × (rowNumbers n (suc r) x ≡ rowNumbers n (suc r) y)
-  unfolding rowNumbers
+  unfolding members
   first-same n r = go (bitAt x r) (bitAt y r)
     where
       xs : List ℕ
-      xs = rowNumbers n (suc r) x
+      xs = members n (suc r) x
 
       ys : List ℕ
-      ys = rowNumbers n (suc r) y
+      ys = members n (suc r) y
 
-      go : (a b : Bool) → cond a (suc r ∷ xs) xs ≡ cond b (suc r ∷ ys) ys → (a ≡ b) × (xs ≡ ys)
+      go : (a b : Bool) → map suc (cond a (r ∷ xs) xs) ≡ map suc (cond b (r ∷ ys) ys)
+          → (a ≡ b) × (map suc xs ≡ map suc ys)
       go true true e = (refl, tail-eq-of-cons-eq e)
-      go true false e = absurd (omega (arith, numbers-larger n (suc r) y (suc r) xs (sym e)))
-      go false true e = absurd (omega (arith, numbers-larger n (suc r) x (suc r) ys e))
+      go true false e = absurd (omega (arith, numbers-larger n (suc r) y (suc r) _ (sym e)))
+      go false true e = absurd (omega (arith, numbers-larger n (suc r) x (suc r) _ e))
       go false false e = (refl, e)
 
   bits-same : (n r : ℕ) → rowNumbers n r x ≡ rowNumbers n r y

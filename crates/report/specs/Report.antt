@@ -1,10 +1,9 @@
 -- "A whole report": its lines, for each thing that can be found of a table.
 use Prim.Native.Char.{code}
 use Prim.Native.Nat.{ℕ, zero, suc, _+_}
-use mathlib.Core.Bool.{cond}
-use mathlib.Core.List.{List, [], _∷_, _++_}
+use mathlib.Core.List.{List, [], _∷_, _++_, map}
 use lib.ListN.{take}
-use Rattle.letters.specs.Letter.{bitAt, signalOn, bit}
+use Rattle.letters.specs.Letter.{signalOn, bit, members}
 use Rattle.text.specs.Bounds.{decimal}
 use Rattle.text.specs.Bytes.{bytes}
 use Rattle.text.specs.Lines.{ended}
@@ -62,10 +61,8 @@ trapLines signals buffer trap =
     tickLines signals 1 (take (trap .length) buffer) ++ lostLine (trap .lost) ∷ []
 
 -- The numbers of the rows in a set, in file order, of n rows from bit r on: bit r is row r + 1.
-unfoldable pub rowNumbers : ℕ → ℕ → ℕ → List ℕ
-rowNumbers zero r set = []
-rowNumbers (suc n) r set =
-    let later = rowNumbers n (suc r) set in cond (bitAt set r) (suc r ∷ later) later
+abbrev pub rowNumbers : ℕ → ℕ → ℕ → List ℕ
+rowNumbers n r set = map suc (members n r set)
 
 -- Document 02, ask 2: "each row number after a space, or" a dash where there is none.
 unfoldable pub spaced : List ℕ → List ℕ

@@ -1,19 +1,20 @@
--- `print_file` is safe: no text is longer than a file can be. Assumes nothing but the contracts of
--- the C functions in `libc` and `os`.
-use Prim.Native.Nat.{ℕ}
+-- `print_file` is safe: no text is longer than its buffer. Assumes nothing but the contracts of the
+-- C functions in `libc` and `os`.
 use borrow.Author.Needs.{needs}
-use mathlib.Core.Path.{sym}
-use lib.ListN.{replicate, length-replicate}
+use native.Mathlib.Omega.{arith}
+use mathlib.Core.Path.{sym, ap}
+use lib.ListN.{length, length-append, length-take, length-drop}
 use lib.Seq.{length-take-le}
-use Rattle.checker.proofs.Writing.{writing-fits}
+use Rattle.checker.proofs.Writing.{writing-short}
 use Rattle.writetable.proofs.print_file.Statement.{statement}
 use Rattle.writetable.proofs.print_file.Tie as tie
 
 array-share-prefix-written : tie.Need-array-share-prefix-written
 array-share-prefix-written c =
-    let call = c .write-file .ensures in
-    writing-fits (c .before .before .before .args .file .now) (replicate 4096 0)
-    (length-replicate {A = ℕ} 4096 0) (call .0) (call .1)
+    let write = c .write-file in
+    let short = writing-short (c .before .before .before .args .file .now) in
+    let long = simp (length-append, length-take, length-drop) at (ap length (write .ensures .1)) in
+    omega (arith, write .ensures .0, short, long)
 
 slice-aggregate-write-all : tie.Need-slice-aggregate-write-all
 slice-aggregate-write-all c = sym (length-take-le _ _ (array-share-prefix-written (c .before)))

@@ -1,21 +1,30 @@
 -- `file::put_literal` meets its contract: the name alone, or `!` and the name. Assumes nothing.
 use borrow.Author.Needs.{needs}
 use native.Mathlib.Omega.{arith}
+use mathlib.Core.Bool.{true, false}
+use mathlib.Core.Path.{_≡_}
 use Rattle.report.proofs.Puts.{puts-append}
 use Rattle.report.proofs.file.put_literal.Statement.{statement}
 use Rattle.report.proofs.file.put_literal.Tie as tie
 
+-- The signal is on, or off.
+on : (c : tie.Then1) → c .before .before .args .on ≡ true
+on c = c .if1 .taken
+
+off : (c : tie.Else1) → c .before .before .args .on ≡ false
+off c = c .if1 .left
+
 returns : tie.Need-returns
 returns c =
     let name = c .before .before in
-    rw (name .before .before .if1 .taken)
+    rw (on (name .before .before))
     (name .put-name .ensures .0, omega (arith, name .put-name .ensures .1))
 
 returns-2 : tie.Need-returns-2
 returns-2 c =
     let name = c .before .before in
     let sign = name .before .before .before .before in
-    rw (sign .before .before .if1 .left) (
+    rw (off (sign .before .before)) (
       puts-append (sign .byte .ensures) (name .put-name2 .ensures .0),
       omega (arith, sign .byte .ensures .next-is, name .put-name2 .ensures .1),
     )

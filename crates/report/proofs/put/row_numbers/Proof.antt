@@ -1,17 +1,17 @@
 -- `put::row_numbers` meets its contract. The invariant: the numbers from `row` on, put after what
 -- is done, make the whole, and `bits` is the set without the bits of the rows before. The measure:
 -- how many rows are left. Assumes nothing.
-use Prim.Native.Nat.{ℕ, suc, _+_, _-_, _/_, _%_, _^_, _≤_}
+use Prim.Native.Nat.{ℕ, suc, _+_, _-_, _/_, _%_, _^_, _<_, _≤_}
 use borrow.Author.Needs.{needs}
 use borrow.Author.Tests.{eq-eqb, ne-eqb}
 use native.Mathlib.Omega.{arith}
-use mathlib.Core.Bool.{cond}
 use mathlib.Core.List.{List, [], _∷_, _++_}
 use mathlib.Core.Logic.{⊎-elim}
-use mathlib.Core.Path.{_≡_}
+use mathlib.Core.Path.{_≡_, _∙_}
 use lib.Dec.{eqb}
 use lib.Pow.{shr-shr}
 use Rattle.letters.specs.Letter.{bitAt}
+use Rattle.letters.proofs.Members.{members-next, members-skip, members-end}
 use Rattle.text.specs.Bounds.{decimal}
 use Rattle.text.specs.Bytes.{bytes}
 use Rattle.report.specs.inner.Puts.{Puts, Countable}
@@ -47,24 +47,26 @@ module _ {out₀ : List ℕ} {at rows set : ℕ} {out : List ℕ} {next bits row
   numbered = bytes " " ++ decimal row
 
   module _ (low : row ≤ rows) where
-    left-more : left rows set (row - 1) ≡ spaced (cond (eqb (bits % 2) 1)
-        (row ∷ rowNumbers (rows - row) row set) (rowNumbers (rows - row) row set))
-    unfolding rowNumbers
-    left-more =
-        let some : rows - (row - 1) ≡ suc (rows - row) = omega arith in
-        let here : suc (row - 1) ≡ row = omega (arith, done .some) in
-        rw (some, bit-here, here)
+    -- Bit row - 1 is one of the rows' bits, and after it comes bit row.
+    place-low : row - 1 < rows
+    place-low = omega (arith, done .some)
+
+    after : (row - 1) + 1 ≡ row + 1 - 1
+    after = omega (arith, done .some)
 
     left-on : bits % 2 ≡ 1 → left rows set (row - 1) ≡ numbered ++ left rows set (row + 1 - 1)
     unfolding spaced
     left-on e =
-        let after : row + 1 - 1 ≡ row = omega arith in
-        rw (left-more, eq-eqb (bits % 2) 1 e, after)
+        let here : suc (row - 1) ≡ row = omega (arith, done .some) in
+        rw (
+          members-next set rows (row - 1) place-low (bit-here ∙ eq-eqb (bits % 2) 1 e),
+          after,
+          here,
+        )
 
     left-off : (bits % 2 ≡ 1 → ⊥) → left rows set (row - 1) ≡ left rows set (row + 1 - 1)
     left-off e =
-        let after : row + 1 - 1 ≡ row = omega arith in
-        rw (left-more, ne-eqb (bits % 2) 1 e, after)
+        rw (members-skip set rows (row - 1) place-low (bit-here ∙ ne-eqb (bits % 2) 1 e), after)
 
     next-bits : bits / 2 ≡ set / 2 ^ (row + 1 - 1)
     next-bits =
@@ -91,8 +93,8 @@ module _ {out₀ : List ℕ} {at rows set : ℕ} {out : List ℕ} {next bits row
     number-countable e = putting-countable (done .putting) numbered _ (left-on e)
 
   none-left : rows + 1 ≤ row → left rows set (row - 1) ≡ []
-  unfolding rowNumbers spaced
-  none-left h = let none : rows - (row - 1) ≡ 0 = omega arith in rw none
+  unfolding spaced
+  none-left h = rw (members-end set rows (row - 1) (omega arith))
 
 abbrev Inv-loop : tie.InvT-loop
 Inv-loop out₀ at rows set next₀ bits₀ row₀ out next bits row =
