@@ -239,16 +239,6 @@ fn no_text(number: u8) -> Text {
     }
 }
 
-// The table that the front of a buffer is read as.
-fn table_of(bytes: &[u8], length: usize) -> Table {
-    if length <= bytes.len() {
-        let front = reader::read(&bytes[..length]);
-        return front.table;
-    }
-    let all = reader::read(bytes);
-    all.table
-}
-
 // The text with one byte changed, if one is to be.
 fn strike_text(text: Text, at: usize, struck: bool) -> Text {
     let mut changed = text;
@@ -263,7 +253,12 @@ fn strike_text(text: Text, at: usize, struck: bool) -> Text {
 // What differs where a table's text is read back and written again.
 fn read_back(text: Text, table: Table) -> u32 {
     let bytes = text.bytes;
-    let back = table_of(&bytes, text.length);
+    let length = text.length;
+    if MOST_BYTES < length {
+        return unless(false, 21);
+    }
+    let read = reader::read(&bytes[..length]);
+    let back = read.table;
     unless(same_table(back, table), 20) | unless(same_text(text_of(back), text), 21)
 }
 
