@@ -46,8 +46,8 @@ module _ (bytes : List ℕ) {reading : Reading} (read : reading ≡ readAnswer b
             let told = ap (λ (r : Reading). r .outcome) (read ∙ e) in
             absurd (let z : _≡_ {A = ℕ} 0 1 = cc in omega arith)
 
--- A table that is written into a buffer as long as a file can be: where the call refuses, its number
--- is 23, and the buffer is as it was; else the file is there.
+-- A table that is written into a buffer as long as a file can be: where the call refuses, its
+-- number is 23, and the buffer is as it was; else the file is there.
 module _ (table : Table) (buffer : List ℕ) (passes : tableValid table ≡ true)
     (room : length buffer ≡ mostBytes) where
   abbrev text : List ℕ
@@ -81,7 +81,8 @@ module _ (table : Table) (buffer : List ℕ) (passes : tableValid table ≡ true
       go (yes long) = rw (e, case-answer table buffer (is23 passes long)) (long-printed long)
       go (no h) =
           let short : length (fileText table) ≤ mostBytes = omega arith in
-          rw (e, case-answer table buffer (isWritten passes short (omega arith))) (short-printed short)
+          rw (e, case-answer table buffer (isWritten passes short (omega arith)))
+          (short-printed short)
 
 -- No more is printed than a file has bytes.
 refused-short : (number line : ℕ) → number < 1000 → line < 1000

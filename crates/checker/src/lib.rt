@@ -1,6 +1,6 @@
 // The checker: the bytes of a table file in, the bytes of its report, of its totals or of its table
-// written again out. specs/FileReport.antt and specs/FileLoad.antt say what is right, for every file
-// and all lent memory.
+// written again out. specs/FileReport.antt and specs/FileLoad.antt, and `RightWriting` of the crate
+// demands, say what is right, for every file and all lent memory.
 use table::MOST_BYTES;
 use table::Outcome;
 use table::Table;
@@ -115,9 +115,10 @@ fn write_table(table: Table, out: &mut [u8; MOST_BYTES]) -> usize
     }
 }
 
-// Reads the file, writes its table from the front of `out` as a file of version 0001, in one way, and
-// answers the file's length. A file that is refused, and a table that is too long to be written,
-// give their refused line instead. `out` is as long as a file can be, so 24 never comes up.
+// Reads the file, writes its table from the front of `out` as a file of version 0001, in one way,
+// and answers the file's length. A file that is refused, and a table that is too long to be
+// written, give their refused line instead. `out` is as long as a file can be, so 24 never comes
+// up.
 pub fn write_file(bytes: &[u8], out: &mut [u8; MOST_BYTES]) -> usize
     ensures { λ r. ⌜ r ≡ length (writingAnswer (now (bytes .entry))) ⌝ }
     ensures { λ _. ⌜ now (out .exit)

@@ -271,19 +271,14 @@ pub written-read : (table : Table) → IsWritten table
 written-read = Writing.written-read
 
 -- "Two accepted tables that are both written give equal bytes if and only if their names, sets,
--- bounds and row order are equal": if they are the same table value, which has no other parts;
+-- bounds and row order are equal"; then they are the same table value, which has no other parts;
 module _ (one other : Table) where
-  pub same-bytes : IsWritten one → IsWritten other → fileText one ≡ fileText other → one ≡ other
-  same-bytes = Writing.same-bytes one other
-
-  pub same-written : one ≡ other → fileText one ≡ fileText other
-  same-written = Writing.same-written one other
+  pub bytes-exactly : IsWritten one → IsWritten other
+      → (fileText one ≡ fileText other) ↔ SameTable one other
+  bytes-exactly = Writing.bytes-exactly one other
 
   pub same-parts : Writable one → Writable other → SameTable one other → one ≡ other
   same-parts = Writing.same-parts one other
-
-  pub parts-same : one ≡ other → SameTable one other
-  parts-same = Writing.parts-same one other
 
 -- and so for the tables of any two files.
 pub files-alike : (bytes others : List ℕ) (one other : Table) → IsFile bytes one

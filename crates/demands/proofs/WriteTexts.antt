@@ -12,7 +12,7 @@ use lib.ListN.{length, take, drop}
 use lib.Seq.{drop-append-seam}
 use Rattle.table.specs.Limits.{mostBytes}
 use Rattle.table.specs.Valid.{tableValid}
-use Rattle.table.specs.further.Numbers.{numberOf}
+use Rattle.table.specs.further.Numbers.{numberOf, lineOf}
 use Rattle.table.specs.declared.Outcome.the-variants.{Accepted}
 use Rattle.table.specs.declared.Table.{Table}
 use Rattle.reader.specs.Grammar.{IsFile}
@@ -35,35 +35,48 @@ module _ (table : Table) (buffer : List ℕ) where
   abbrev text : List ℕ
   text = fileText table
 
-  -- The number says which case it is.
+  -- The cases of this call, and the one that it is.
+  abbrev Cases : Type 0
+  Cases = Case table buffer
+
+  abbrev answer : Cases → WriteCall
+  answer case = answerOf table buffer case
+
+  answered : (case : Cases) → writeAnswer table buffer ≡ answer case
+  answered = case-answer table buffer
+
+  found : Cases
+  found = case-found table buffer
+
+  -- The number says which it is.
   abbrev number : WriteCall → ℕ
   number call = numberOf (call .outcome)
 
   case-number : (call : WriteCall) → writeAnswer table buffer ≡ call
-      → number (answerOf table buffer (case-found table buffer)) ≡ number call
-  case-number call e = ap number (sym (case-answer table buffer (case-found table buffer)) ∙ e)
+      → number (answer found) ≡ number call
+  case-number call e = ap number (sym (answered found) ∙ e)
 
-  only-17 : (case : Case table buffer) → number (answerOf table buffer case) ≡ 17 → tableValid table ≡ false
+  only-17 : (case : Cases) → number (answer case) ≡ 17 → tableValid table ≡ false
   only-17 (is17 fails) e = fails
   only-17 (is23 passes long) e = absurd (omega arith)
   only-17 (is24 passes few short) e = absurd (omega arith)
   only-17 (isWritten passes few room) e = absurd (omega arith)
 
-  only-23 : (case : Case table buffer) → number (answerOf table buffer case) ≡ 23
+  only-23 : (case : Cases) → number (answer case) ≡ 23
       → (tableValid table ≡ true) × (mostBytes < length text)
   only-23 (is17 fails) e = absurd (omega arith)
   only-23 (is23 passes long) e = (passes, long)
   only-23 (is24 passes few short) e = absurd (omega arith)
   only-23 (isWritten passes few room) e = absurd (omega arith)
 
-  only-24 : (case : Case table buffer) → number (answerOf table buffer case) ≡ 24
+  only-24 : (case : Cases) → number (answer case) ≡ 24
       → (tableValid table ≡ true) × (length text ≤ mostBytes) × (length buffer < length text)
   only-24 (is17 fails) e = absurd (omega arith)
   only-24 (is23 passes long) e = absurd (omega arith)
   only-24 (is24 passes few short) e = (passes, few, short)
   only-24 (isWritten passes few room) e = absurd (omega arith)
 
-  only-written : (case : Case table buffer) → number (answerOf table buffer case) ≡ 0
+  only-written : (case : Cases) → number (answer case) ≡ 0
       → (tableValid table ≡ true) × (length text ≤ mostBytes) × (length text ≤ length buffer)
   only-written (is17 fails) e = absurd (omega arith)
   only-written (is23 passes long) e = absurd (omega arith)
@@ -72,57 +85,69 @@ module _ (table : Table) (buffer : List ℕ) where
 
   pub write-17 : (writeAnswer table buffer ≡ unwritten 17 buffer) ↔ (tableValid table ≡ false)
   write-17 = (
-    λ e. only-17 (case-found table buffer) (case-number (unwritten 17 buffer) e),
-    λ fails. case-answer table buffer (is17 fails),
+    λ e. only-17 found (case-number (unwritten 17 buffer) e),
+    λ fails. answered (is17 fails),
   )
 
   pub write-23 : (writeAnswer table buffer ≡ unwritten 23 buffer)
       ↔ ((tableValid table ≡ true) × (mostBytes < length text))
   write-23 = (
-    λ e. only-23 (case-found table buffer) (case-number (unwritten 23 buffer) e),
-    λ h. case-answer table buffer (is23 (h .0) (h .1)),
+    λ e. only-23 found (case-number (unwritten 23 buffer) e),
+    λ h. answered (is23 (h .0) (h .1)),
   )
 
   pub write-24 : (writeAnswer table buffer ≡ unwritten 24 buffer)
       ↔ ((tableValid table ≡ true) × (length text ≤ mostBytes) × (length buffer < length text))
   write-24 = (
-    λ e. only-24 (case-found table buffer) (case-number (unwritten 24 buffer) e),
-    λ h. case-answer table buffer (is24 (h .0) (h .1) (h .2)),
+    λ e. only-24 found (case-number (unwritten 24 buffer) e),
+    λ h. answered (is24 (h .0) (h .1) (h .2)),
   )
 
   pub written-exactly : (writeAnswer table buffer ≡ wrote text buffer)
       ↔ ((tableValid table ≡ true) × (length text ≤ mostBytes) × (length text ≤ length buffer))
   written-exactly = (
-    λ e. only-written (case-found table buffer) (case-number (wrote text buffer) e),
-    λ h. case-answer table buffer (isWritten (h .0) (h .1) (h .2)),
+    λ e. only-written found (case-number (wrote text buffer) e),
+    λ h. answered (isWritten (h .0) (h .1) (h .2)),
   )
 
   pub write-one-of-four : (writeAnswer table buffer ≡ unwritten 17 buffer)
       ⊎ ((writeAnswer table buffer ≡ unwritten 23 buffer)
       ⊎ ((writeAnswer table buffer ≡ unwritten 24 buffer)
       ⊎ (writeAnswer table buffer ≡ wrote text buffer)))
-  write-one-of-four = go (case-found table buffer)
+  write-one-of-four = go found
     where
-      go : Case table buffer → (writeAnswer table buffer ≡ unwritten 17 buffer)
+      go : Cases → (writeAnswer table buffer ≡ unwritten 17 buffer)
           ⊎ ((writeAnswer table buffer ≡ unwritten 23 buffer)
           ⊎ ((writeAnswer table buffer ≡ unwritten 24 buffer)
           ⊎ (writeAnswer table buffer ≡ wrote text buffer)))
-      go (is17 fails) = inl (case-answer table buffer (is17 fails))
-      go (is23 passes long) = inr (inl (case-answer table buffer (is23 passes long)))
-      go (is24 passes few short) = inr (inr (inl (case-answer table buffer (is24 passes few short))))
-      go (isWritten passes few room) = inr (inr (inr (case-answer table buffer (isWritten passes few room))))
+      go (is17 fails) = inl (answered (is17 fails))
+      go (is23 passes long) = inr (inl (answered (is23 passes long)))
+      go (is24 passes few short) = inr (inr (inl (answered (is24 passes few short))))
+      go (isWritten passes few room) = inr (inr (inr (answered (isWritten passes few room))))
 
-  -- The lent buffer.
-  pub write-unchanged : (n : ℕ) → numberOf (writeAnswer table buffer .outcome) ≡ suc n
-      → writeAnswer table buffer .buffer ≡ buffer
-  write-unchanged n e =
-      ap (λ (call : WriteCall). call .buffer) (case-answer table buffer (case-found table buffer))
-      ∙ go (case-found table buffer) (case-number (writeAnswer table buffer) refl ∙ e)
+  -- No line is told; and a call that refuses leaves length 0 and the buffer as it was.
+  pub write-line : lineOf (writeAnswer table buffer .outcome) ≡ 0
+  write-line = ap (λ (call : WriteCall). lineOf (call .outcome)) (answered found) ∙ go found
     where
-      go : (case : Case table buffer) → number (answerOf table buffer case) ≡ suc n → answerOf table buffer case .buffer ≡ buffer
-      go (is17 fails) e = refl
-      go (is23 passes long) e = refl
-      go (is24 passes few short) e = refl
+      go : (case : Cases) → lineOf (answer case .outcome) ≡ 0
+      go (is17 fails) = refl
+      go (is23 passes long) = refl
+      go (is24 passes few short) = refl
+      go (isWritten passes few room) = refl
+
+  pub write-refused : (n : ℕ) → numberOf (writeAnswer table buffer .outcome) ≡ suc n
+      → (writeAnswer table buffer .length ≡ 0) × (writeAnswer table buffer .buffer ≡ buffer)
+  write-refused n e =
+      let left = go found (case-number (writeAnswer table buffer) refl ∙ e) in (
+        ap (λ (call : WriteCall). call .length) (answered found) ∙ left .0,
+        ap (λ (call : WriteCall). call .buffer) (answered found) ∙ left .1,
+      )
+    where
+      go : (case : Cases) → number (answer case) ≡ suc n
+          → (answer case .length ≡ 0) × (answer case .buffer ≡ buffer)
+      go (is17 fails) e = (refl, refl)
+      go (is23 passes long) e = (refl, refl)
+      go (is24 passes few short) e = (refl, refl)
       go (isWritten passes few room) e = absurd (omega arith)
 
   pub written-behind : writeAnswer table buffer .outcome ≡ Accepted
@@ -130,7 +155,7 @@ module _ (table : Table) (buffer : List ℕ) where
       (take (call .length) (call .buffer) ≡ text)
       × (drop (call .length) (call .buffer) ≡ drop (call .length) buffer)
   written-behind e =
-      let h = only-written (case-found table buffer)
+      let h = only-written found
       (case-number (writeAnswer table buffer) refl ∙ ap numberOf e) in
       rw (written-exactly .1 h) (
         written-front text buffer (h .2),

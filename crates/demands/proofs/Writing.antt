@@ -8,7 +8,7 @@ use lib.ListN.{length, take, drop}
 use Rattle.letters.specs.Letter.{width, setValid}
 use Rattle.table.specs.Limits.{mostBytes}
 use Rattle.table.specs.Valid.{tableValid}
-use Rattle.table.specs.further.Numbers.{numberOf}
+use Rattle.table.specs.further.Numbers.{numberOf, lineOf}
 use Rattle.table.specs.declared.Name.{Name}
 use Rattle.table.specs.declared.Outcome.the-variants.{Accepted}
 use Rattle.table.specs.declared.Table.{Table}
@@ -20,6 +20,7 @@ use Rattle.reader.specs.inner.File.{readAnswer}
 use Rattle.reader.proofs.Sizes as Sizes
 use Rattle.report.specs.File.{conditionText, usedNames, fileText, unwritten, wrote, writeAnswer}
 use Rattle.checker.specs.inner.Computed.{writingAnswer}
+use Rattle.checker.proofs.Writing as Printing
 use Rattle.demands.specs.Writing.{Writable, IsWritten, SameTable, RightWriting}
 use Rattle.demands.specs.further.Canonical.{IsConditionText}
 use Rattle.demands.proofs.ConditionTexts as Conditions
@@ -75,6 +76,13 @@ module _ (one other : Table) where
   pub parts-same : one ≡ other → SameTable one other
   parts-same = Files.parts-same
 
+  pub bytes-exactly : IsWritten one → IsWritten other
+      → (fileText one ≡ fileText other) ↔ SameTable one other
+  bytes-exactly w v = (
+    λ e. parts-same (same-bytes w v e),
+    λ same. same-written (same-parts (w .writable) (v .writable) same),
+  )
+
 -- The table of a file is such a table value.
 module _ (bytes : List ℕ) (table : Table) (file : IsFile bytes table) where
   pub file-sized : Sized table
@@ -125,11 +133,14 @@ module _ (table : Table) (buffer : List ℕ) where
       ⊎ (writeAnswer table buffer ≡ wrote text buffer)))
   write-one-of-four = Texts.write-one-of-four table buffer
 
-  -- "The buffer is then unchanged. When the file is written, the answer gives its length and the
-  -- bytes behind it are unchanged."
-  pub write-unchanged : (n : ℕ) → numberOf (writeAnswer table buffer .outcome) ≡ suc n
-      → writeAnswer table buffer .buffer ≡ buffer
-  write-unchanged = Texts.write-unchanged table buffer
+  -- They have line 0 and length 0, and "the buffer is then unchanged. When the file is written, the
+  -- answer gives its length and the bytes behind it are unchanged."
+  pub write-line : lineOf (writeAnswer table buffer .outcome) ≡ 0
+  write-line = Texts.write-line table buffer
+
+  pub write-refused : (n : ℕ) → numberOf (writeAnswer table buffer .outcome) ≡ suc n
+      → (writeAnswer table buffer .length ≡ 0) × (writeAnswer table buffer .buffer ≡ buffer)
+  write-refused = Texts.write-refused table buffer
 
   pub written-behind : writeAnswer table buffer .outcome ≡ Accepted
       → let call = writeAnswer table buffer in
@@ -145,6 +156,10 @@ module _ (bytes : List ℕ) where
 
   pub writing-text-only : (text : List ℕ) → RightWriting bytes text → writingAnswer bytes ≡ text
   writing-text-only = Texts.writing-only bytes
+
+  -- They are no more than its buffer holds, so 24 never comes up.
+  pub writing-short : length (writingAnswer bytes) ≤ mostBytes
+  writing-short = Printing.writing-short bytes
 
   -- It reads no more of a file than its first 4,097 bytes.
   pub writing-first-bytes : writingAnswer (take (suc mostBytes) bytes) ≡ writingAnswer bytes

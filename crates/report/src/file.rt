@@ -1,6 +1,7 @@
 // A table value as a file of version 0001, in one way, to the byte. specs/File.antt says what is
 // right, for every value and every lent buffer.
 use crate::put;
+use table::FIELDS;
 use table::MOST_BYTES;
 use table::MOST_ROWS;
 use table::MOST_SIGNALS;
@@ -19,13 +20,10 @@ ghost use Rattle.letters.specs.Letter.{letters, members};
 ghost use Rattle.text.specs.Lines.{LF as lineEnd, ended, joined, space};
 ghost use Rattle.text.specs.Words.{signalsWord, orSign, notSign};
 ghost use Rattle.report.specs.inner.Puts.{Puts};
-ghost use Rattle.report.specs.inner.Writing.{Named, Held, boundAt, fieldValues};
-ghost use Rattle.report.specs.inner.Writing.{fieldText, notWritten};
+ghost use Rattle.report.specs.inner.Writing.{Named, Held, fieldValues, fieldText};
+ghost use Rattle.report.specs.inner.Writing.{notWritten};
 ghost use Rattle.report.specs.File.{nameText, termText, conditionText, rowText, fileText};
 ghost use Rattle.report.specs.File.{writeAnswer};
-
-// The fields of a row.
-const FIELDS: usize = 12;
 
 // Whether a table was written, and how long its file is: 0 where it was not.
 pub struct Written {
@@ -148,13 +146,6 @@ fn values_of(row: Row) -> [u64; FIELDS]
     ]
 }
 
-// Whether field k, counted from 0, is a bound.
-fn is_bound(k: usize) -> bool
-    ensures { λ r. ⌜ r ≡ boundAt k ⌝ }
-{
-    (3 <= k) & (k <= 6) | (10 <= k)
-}
-
 // Field k, which holds v: a condition, or a bound.
 fn put_field(
     out: &mut [u8],
@@ -169,7 +160,7 @@ fn put_field(
         (now (out .entry)) r (now (out .exit)) ⌝ }
     ensures { λ r. ⌜ r ≤ at + 3839 ⌝ }
 {
-    if is_bound(k) {
+    if table::rows::is_bound(k) {
         return put::decimal(out, at, (v % 256) as u32);
     }
     put_condition(out, at, names, signals, v)

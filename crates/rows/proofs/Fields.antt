@@ -7,6 +7,7 @@ use mathlib.Core.Bool.{Bool, true, false}
 use mathlib.Core.List.{List, [], _∷_, map}
 use mathlib.Core.Path.{_≡_, refl, ap₂}
 use lib.ListN.{length}
+use Rattle.table.specs.inner.Fields.{boundAt}
 use Rattle.table.specs.declared.Name.{Name}
 use Rattle.letters.specs.Lists.{within}
 use Rattle.text.specs.Lines.{count, Free, none as no-piece, and as and-piece}
@@ -23,7 +24,7 @@ use Rattle.conditions.proofs.Judging.{judge-right, right-judge, judge-some}
 use Rattle.conditions.proofs.Signs.{inCondition, condition-free}
 use Rattle.rows.specs.Row.{FieldKind, aCondition, aBound, fieldKinds, IsField, AreFields}
 use Rattle.rows.specs.Row.{none, and, FirstFault, noCondition, noBound, later}
-use Rattle.rows.specs.inner.Row.{boundAt, fieldOf, fieldsOf, numberAmong}
+use Rattle.rows.specs.inner.Row.{fieldOf, fieldsOf, numberAmong}
 use Rattle.rows.specs.declared.Field.the-variants.{Value}
 
 -- The kinds of the fields from field k on are these.

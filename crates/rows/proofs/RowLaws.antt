@@ -15,6 +15,7 @@ use lib.Seq.{take-all, take-add, drop-drop, set-at, append-snoc}
 use Rattle.letters.specs.Lists.{every, sameBytes}
 use Rattle.letters.proofs.Lists.{and-left, and-right, sameBytes-true}
 use Rattle.table.specs.Limits.{mostTicks}
+use Rattle.table.specs.inner.Fields.{boundAt}
 use Rattle.table.specs.declared.Name.{Name}
 use Rattle.text.specs.Lines.{count, comma}
 use Rattle.text.specs.Words.{ruleWord}
@@ -31,7 +32,7 @@ use Rattle.conditions.specs.declared.Judged.the-variants.{Letters, Refused as N
 use Rattle.rows.specs.declared.Field.{Field}
 use Rattle.rows.specs.declared.Field.the-variants.{Value, Refused}
 use Rattle.rows.specs.declared.Values.{Values}
-use Rattle.rows.specs.inner.Row.{boundAt, ticksField, judgedField, fieldOf, fieldsOf}
+use Rattle.rows.specs.inner.Row.{ticksField, judgedField, fieldOf, fieldsOf}
 use Rattle.rows.specs.inner.Row.{numberAmong, valueOf, setsFrom, boundsFrom, boundsOrdered}
 use Rattle.rows.specs.inner.Row.{judgedRow, rowRefused, rowFields}
 use Rattle.rows.specs.inner.Gathering.{valuesAnswer}

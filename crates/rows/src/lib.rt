@@ -2,6 +2,7 @@
 // which of 10 to 15 another line gets.
 use conditions::Judged;
 use table::CONDITIONS;
+use table::FIELDS;
 use table::MOST_SIGNALS;
 use table::Name;
 use table::Row;
@@ -16,15 +17,13 @@ ghost use Rattle.letters.specs.Letter.{width};
 ghost use Rattle.text.specs.Lines.{comma};
 ghost use Rattle.text.specs.Lines.{count};
 ghost use Rattle.text.specs.inner.Cut.{front};
-ghost use Rattle.rows.specs.inner.Row.{rowFrom, boundAt, boundField, conditionField, fieldOf};
+ghost use Rattle.rows.specs.inner.Row.{rowFrom, boundField, conditionField, fieldOf};
 ghost use Rattle.rows.specs.inner.Row.{faultOf, lineFields, boundsFrom, judgedRow};
 ghost use Rattle.rows.specs.inner.Row.{rowRefused};
 ghost use Rattle.rows.specs.inner.Row.{rowAnswer};
 ghost use Rattle.rows.specs.inner.Gathering.{valuesAnswer};
 
 pub const BOUNDS: usize = 6;
-
-pub const FIELDS: usize = 12;
 
 // What a field holds: a set of letters or a bound; or the number for which it is turned down.
 pub enum Field {
@@ -54,13 +53,6 @@ pub fn row_of(sets: [u64; CONDITIONS], bounds: [u8; BOUNDS]) -> Row
     }
 }
 
-// Whether field k, counted from 0, is a bound.
-fn is_bound(k: usize) -> bool
-    ensures { λ r. ⌜ r ≡ boundAt k ⌝ }
-{
-    (3 <= k) & (k <= 6) | (10 <= k)
-}
-
 fn bound_field(s: &[u8]) -> Field
     ensures { λ r. ⌜ r ≡ boundField (now (s .entry)) ⌝ }
 {
@@ -85,7 +77,7 @@ fn read_field(rest: &[u8], end: usize, k: usize, names: [Name; MOST_SIGNALS], si
     ensures { λ r. ⌜ r ≡ fieldOf (take signals names) (width signals) k
         (front comma (now (rest .entry))) ⌝ }
 {
-    if is_bound(k) {
+    if table::rows::is_bound(k) {
         bound_field(&rest[..end])
     } else {
         condition_field(&rest[..end], names, signals)

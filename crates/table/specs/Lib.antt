@@ -5,3 +5,4 @@ pub mod Name
 pub mod Valid
 pub mod Refusal
 pub mod further
+pub mod inner

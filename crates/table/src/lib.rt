@@ -32,6 +32,9 @@ pub const AC: usize = 4;
 
 pub const AEE: usize = 5;
 
+// The fields of a row's line.
+pub const FIELDS: usize = 12;
+
 // A row: its six conditions as sets of letters, and the bounds of trigger, delay and action.
 pub struct Row {
     pub sets: [u64; CONDITIONS],

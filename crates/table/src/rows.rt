@@ -8,6 +8,14 @@ ghost use lib.ListN.{take, drop};
 ghost use Rattle.letters.specs.Letter.{setValid};
 ghost use Rattle.letters.specs.Lists.{every};
 ghost use Rattle.table.specs.Row.{boundsValid, rowValid, isZero, rowUnused};
+ghost use Rattle.table.specs.inner.Fields.{boundAt};
+
+// Whether field k of a row's line, counted from 0, is a bound.
+pub fn is_bound(k: usize) -> bool
+    ensures { λ r. ⌜ r ≡ boundAt k ⌝ }
+{
+    (3 <= k) & (k <= 6) | (10 <= k)
+}
 
 // Whether a least and a most are those of a file.
 pub fn bounds_valid(least: u8, most: u8) -> bool

@@ -303,8 +303,8 @@ fn write_table(seed: u64, table: Table, valid: bool, files: Files) -> Files {
     }
 }
 
-// Writes a table as it is, or with longer names, or one with more signals, or now and then the table
-// spoiled.
+// Writes a table as it is, or with longer names, or one with more signals, or now and then the
+// table spoiled.
 pub fn try_file(seed: u64, table: Table, files: Files) -> Files {
     let own = mixed(seed);
     if one_in(own ^ 1, 40) {

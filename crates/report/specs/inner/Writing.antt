@@ -1,12 +1,12 @@
 -- What the functions that put a table into a buffer ask for, and how they take a row.
 use Prim.Native.Nat.{ℕ, suc, _%_, _^_, _<_, _≤_}
-use mathlib.Core.Bool.{Bool, _&&_, _||_, cond}
+use mathlib.Core.Bool.{cond}
 use mathlib.Core.List.{List, [], _∷_}
-use lib.Dec.{leb}
 use lib.ListN.{getD}
 use Rattle.letters.specs.Letter.{letters}
 use Rattle.table.specs.Limits.{mostSignals}
 use Rattle.table.specs.Refusal.{refusedAt}
+use Rattle.table.specs.inner.Fields.{boundAt}
 use Rattle.table.specs.declared.Name.{Name}
 use Rattle.table.specs.declared.Row.{Row}
 use Rattle.text.specs.Bounds.{decimal}
@@ -32,10 +32,7 @@ fieldValues row =
     ∷ getD (row .sets) 3 0 ∷ getD (row .sets) 4 0 ∷ getD (row .sets) 5 0
     ∷ row .amin ∷ row .amax ∷ []
 
--- Whether field k, counted from 0, is a bound; and its text, of what it holds.
-abbrev pub boundAt : ℕ → Bool
-boundAt k = leb 3 k && leb k 6 || leb 10 k
-
+-- The text of field k, counted from 0, of what it holds.
 abbrev pub fieldText : List Name → ℕ → ℕ → ℕ → List ℕ
 fieldText names s k v = cond (boundAt k) (decimal (v % 256)) (conditionText names s v)
 

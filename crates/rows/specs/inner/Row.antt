@@ -1,9 +1,10 @@
 -- A row's line computed: its number, and what it gives.
 use Prim.Native.Nat.{ℕ, _+_}
-use mathlib.Core.Bool.{Bool, _&&_, _||_, cond}
+use mathlib.Core.Bool.{Bool, _&&_, cond}
 use mathlib.Core.List.{List, [], _∷_, map}
 use lib.Dec.{leb, eqb}
 use lib.ListN.{getD, drop, replicate}
+use Rattle.table.specs.inner.Fields.{boundAt}
 use Rattle.table.specs.declared.Name.{Name}
 use Rattle.table.specs.declared.Row.{Row}
 use Rattle.text.specs.Lines.{comma, count}
@@ -18,10 +19,6 @@ use Rattle.conditions.specs.declared.Judged.the-variants.{Letters, Refused as N
 use Rattle.rows.specs.declared.Field.{Field}
 use Rattle.rows.specs.declared.Field.the-variants.{Value, Refused}
 use Rattle.rows.specs.declared.RowRead.{RowRead}
-
--- Whether field k, counted from 0, is a bound.
-abbrev pub boundAt : ℕ → Bool
-boundAt k = leb 3 k && leb k 6 || leb 10 k
 
 -- What a field gives: 14 for a bound, 11, 12, 13 for a condition.
 abbrev pub ticksField : Bound → Field

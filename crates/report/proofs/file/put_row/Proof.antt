@@ -179,10 +179,10 @@ returns c =
     let word = worded field in
     let values = valued word in
     let args = started values .args in
-    let others = fields-put (args .signals) (args .names) _ (twelve values) (loop .loop .k) (field .put-field .ensures .0)
-    (loop .loop .inv .putting) (end .loop-test .left) in (
-      line-put (args .signals) (args .names) _ _ (values .values-of .ensures) (bounds-bytes (started values))
-          (word .word .ensures) others (feed .byte2 .ensures),
+    let others = fields-put (args .signals) (args .names) _ (twelve values) (loop .loop .k)
+    (field .put-field .ensures .0) (loop .loop .inv .putting) (end .loop-test .left) in (
+      line-put (args .signals) (args .names) _ _ (values .values-of .ensures)
+          (bounds-bytes (started values)) (word .word .ensures) others (feed .byte2 .ensures),
       omega (arith, place-low loop, feed .byte2 .ensures .next-is),
     )
 

@@ -1,6 +1,6 @@
--- `file::put_rows` meets its contract. The invariant: the lines of the rows that are left, put after
--- what is done, make the whole, and each row took at most 46,085 bytes. The measure: how many rows
--- are left. Assumes nothing.
+-- `file::put_rows` meets its contract. The invariant: the lines of the rows that are left, put
+-- after what is done, make the whole, and each row took at most 46,085 bytes. The measure: how many
+-- rows are left. Assumes nothing.
 use Prim.Native.Nat.{ℕ, _+_, _-_, _*_, _≤_}
 use borrow.Author.Needs.{needs}
 use native.Mathlib.Omega.{arith}
@@ -84,7 +84,8 @@ loop-again c =
     let loop = some .before .before in
     let done = loop .loop .inv in
     record {
-      lines = line-put (numbered (started loop)) (done .lines) noRow (some .before .loop-test .taken)
+      lines = line-put (numbered (started loop)) (done .lines) noRow
+          (some .before .loop-test .taken)
           (omega (arith, some .if1 .left, all-rows (started loop))) (line .put-row .ensures .0);
       near = omega (arith, done .near, line .put-row .ensures .1);
       few = omega (arith, some .if1 .left);

@@ -141,5 +141,5 @@ put-signals-spec =
     tie.close (tie.spec
     Inv-loop μ-loop (λ c. search needs) (λ c κs. search needs) loop-holds byte-requires
     (λ c. search needs) (λ c. search needs) (λ c. search needs) put-name-requires
-    (λ c. search needs) (λ c. search needs) loop-again byte-requires-2 (λ c. puts-length (returns c .0))
-    returns)
+    (λ c. search needs) (λ c. search needs) loop-again byte-requires-2
+    (λ c. puts-length (returns c .0)) returns)

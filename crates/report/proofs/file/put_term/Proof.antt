@@ -148,8 +148,9 @@ returns c =
     let start = started literal in
     let some = start .pre .1 .some in
     let all = enough start in (
-      term-put _ _ _ all (loop .loop .k) some (piece-is _ _ _ all 0 some (literal .before .contains .ensures)
-          (literal .put-literal .ensures .0)) (done .putting) (c .loop-test .left),
+      term-put _ _ _ all (loop .loop .k) some (piece-is _ _ _ all 0 some
+          (literal .before .contains .ensures) (literal .put-literal .ensures .0))
+          (done .putting) (c .loop-test .left),
       omega (
         arith,
         done .near,

@@ -105,7 +105,8 @@ Inv-loop out₀ at names signals set width first next₀ letter₀ out next lett
     Done out₀ signals set names next₀ letter₀ out next letter
 
 abbrev μ-loop : tie.MeasureT-loop
-μ-loop out₀ at names signals set width first next₀ letter₀ out next letter = letters signals - letter
+μ-loop out₀ at names signals set width first next₀ letter₀ out next letter =
+    letters signals - letter
 
 -- The places of the function: its start, the width, the least letter, and the first term.
 abbrev measured : tie.After-least Inv-loop μ-loop → tie.After-width-of Inv-loop μ-loop
@@ -158,7 +159,8 @@ place-low c =
 
 put-term-requires : tie.Need-put-term-requires Inv-loop μ-loop
 put-term-requires c κs =
-    let start = started (measured (c .before)) in (omega (arith, start .pre .0), start .pre .1 .named)
+    let start = started (measured (c .before)) in
+    (omega (arith, start .pre .0), start .pre .1 .named)
 
 add-letter : tie.Need-add-letter Inv-loop μ-loop
 add-letter c =
@@ -189,8 +191,15 @@ put-term-requires-2 : tie.Need-put-term-requires-2 Inv-loop μ-loop
 put-term-requires-2 c κs =
     let sign = c .before .before .before in
     let loop = sign .before .before .before .before .before in
-    let start = started (measured (found (first loop))) in
-    (omega (arith, place-low loop, start .pre .0, sign .byte .ensures .next-is), start .pre .1 .named)
+    let start = started (measured (found (first loop))) in (
+      omega (
+        arith,
+        place-low loop,
+        start .pre .0,
+        sign .byte .ensures .next-is,
+      ),
+      start .pre .1 .named,
+    )
 
 loop-again : tie.Need-loop-again Inv-loop μ-loop
 loop-again c =
