@@ -31,6 +31,9 @@ pub struct Written {
     pub length: usize,
 }
 
+// Each function below asks for a place that is not too far, and says how many bytes it puts at most:
+// so the sum of a place and what follows needs no test.
+
 // A name, without its zeros.
 fn put_name(out: &mut [u8], at: usize, name: Name) -> usize
     requires { ⌜ at ≤ 900000 ⌝ }
