@@ -21,7 +21,8 @@ use Rattle.conditions.proofs.Judging as Judging
 use Rattle.reader.specs.inner.File.{readAnswer}
 use Rattle.reader.specs.Grammar.{IsFile}
 use Rattle.reader.specs.Reading.{accepted}
-use Rattle.reader.specs.further.Witness.{Sized, Witnessed}
+use Rattle.reader.specs.Sized.{Sized}
+use Rattle.reader.specs.further.Witness.{Witnessed}
 use Rattle.reader.specs.declared.Reading.{Reading}
 use Rattle.reader.proofs.Accepted as Accepting
 use Rattle.reader.proofs.Valid as Valid

@@ -15,7 +15,7 @@ use Rattle.table.specs.declared.Table.{Table}
 use Rattle.conditions.specs.Judge.{IsCondition}
 use Rattle.reader.specs.Grammar.{IsFile}
 use Rattle.reader.specs.Reading.{accepted}
-use Rattle.reader.specs.further.Witness.{Sized}
+use Rattle.reader.specs.Sized.{Sized}
 use Rattle.reader.specs.inner.File.{readAnswer}
 use Rattle.reader.proofs.Sizes as Sizes
 use Rattle.report.specs.File.{conditionText, usedNames, fileText, unwritten, wrote, writeAnswer}

@@ -11,7 +11,7 @@ use Rattle.text.specs.Lines.{ended}
 use Rattle.reader.specs.Grammar.{IsFile}
 use Rattle.reader.specs.Reading.{refusedFile}
 use Rattle.reader.specs.Right.{RightReading}
-use Rattle.reader.specs.further.Witness.{Sized}
+use Rattle.reader.specs.Sized.{Sized}
 use Rattle.report.specs.Report.{refusedLine}
 use Rattle.report.specs.File.{usedNames, fileText}
 

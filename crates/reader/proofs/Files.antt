@@ -31,7 +31,7 @@ use Rattle.header.proofs.Shapes.{signals-free}
 use Rattle.rows.proofs.Rules.{row-free}
 use Rattle.reader.specs.Reading.{zeroRow, tableFrom}
 use Rattle.reader.specs.Grammar.{none, and, AreLines, AreRows, IsFile}
-use Rattle.reader.specs.further.Witness.{Sized}
+use Rattle.reader.specs.Sized.{Sized}
 use Rattle.reader.proofs.PlainNames.{wordOf, Eight, words-right, words-names, names-unused}
 use Rattle.reader.proofs.PlainNames.{zeros-after}
 

@@ -19,7 +19,7 @@ use Rattle.rows.specs.Row.{IsRow}
 use Rattle.rows.proofs.Rules.{row-same}
 use Rattle.reader.specs.Grammar.{Each, none, and, IsFile}
 use Rattle.reader.specs.Reading.{zeroRow}
-use Rattle.reader.specs.further.Witness.{Sized}
+use Rattle.reader.specs.Sized.{Sized}
 use Rattle.reader.proofs.Files.{Six}
 
 name-places : (w : List ℕ) → length (nameOf w .chars) ≡ nameLength

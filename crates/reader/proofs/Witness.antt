@@ -22,7 +22,8 @@ use Rattle.conditions.specs.Condition.{nameOf, IsName}
 use Rattle.header.specs.Header.{namesFrom}
 use Rattle.reader.specs.Reading.{tableFrom}
 use Rattle.reader.specs.Grammar.{AreRows}
-use Rattle.reader.specs.further.Witness.{Sized, Witnessed}
+use Rattle.reader.specs.Sized.{Sized}
+use Rattle.reader.specs.further.Witness.{Witnessed}
 use Rattle.reader.proofs.Files as Files
 use Rattle.reader.proofs.PlainRows.{bare, lineOf, lines-rows, lines-length, bare-bounds}
 

@@ -1,7 +1,8 @@
 -- The reader: `Reading` (its answers), `Grammar` (the accepted files), `Right` (which answer each
--- file gets), `Witness` (number 17).
+-- file gets), `Sized` (values of the machine), `Witness` (number 17).
 pub mod Reading
 pub mod Grammar
 pub mod Right
+pub mod Sized
 pub mod further
 pub mod inner

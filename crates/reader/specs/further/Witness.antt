@@ -1,24 +1,12 @@
 -- Number 17 turns down "a signal count, names, row count or bounds that no accepted file has". What
 -- it lets by is in some accepted file: what that means.
-use Prim.Native.Nat.{ℕ, _<_}
+use Prim.Native.Nat.{ℕ}
 use mathlib.Core.List.{List}
 use mathlib.Core.Path.{_≡_}
-use lib.ListN.{length, getD}
-use Rattle.table.specs.Limits.{mostSignals, mostRows, nameLength, conditions}
-use Rattle.table.specs.Row.{noRow}
 use Rattle.table.specs.Valid.{rowsOf}
 use Rattle.table.specs.declared.Row.{Row}
 use Rattle.table.specs.declared.Table.{Table}
-use Rattle.header.specs.Header.{noName}
 use Rattle.reader.specs.Grammar.{Each, IsFile}
-
--- A table value of the machine: six names of eight places each, and eight rows of six sets each. In
--- the logic a list has any length.
-pub record Sized (table : Table) : Type 0 where
-  pub names : length (table .names) ≡ mostSignals
-  pub chars : (i : ℕ) → i < mostSignals → length (getD (table .names) i noName .chars) ≡ nameLength
-  pub rows : length (table .rows) ≡ mostRows
-  pub sets : (i : ℕ) → i < mostRows → length (getD (table .rows) i noRow .sets) ≡ conditions
 
 -- Two rows with the same bounds, whatever their sets.
 pub record SameBounds (one other : Row) : Type 0 where
