@@ -3,7 +3,7 @@ use borrow.Author.Needs.{needs}
 use mathlib.Core.Path.{_≡_}
 use lib.ListN.{length}
 use Rattle.table.specs.Limits.{mostBytes}
-use Rattle.checker.proofs.Writing.{Printed, write-printed}
+use Rattle.checker.proofs.Writing.{write-printed}
 use Rattle.checker.proofs.write_table.Statement.{statement}
 use Rattle.checker.proofs.write_table.Tie as tie
 

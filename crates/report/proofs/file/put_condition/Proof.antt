@@ -1,6 +1,6 @@
 -- `file::put_condition` meets its contract: what all letters of the signals leave of the set is
 -- none, all, or the letters of its terms. Assumes nothing.
-use Prim.Native.Nat.{ℕ, _<_}
+use Prim.Native.Nat.{ℕ}
 use borrow.Author.Needs.{needs}
 use borrow.Author.Tests.{eq-eqb, ne-eqb}
 use native.Mathlib.Omega.{arith}
@@ -18,7 +18,6 @@ use Rattle.text.specs.Lines.{joined}
 use Rattle.text.specs.Words.{falseSign, trueSign, orSign}
 use Rattle.report.specs.inner.Writing.{Named, Held}
 use Rattle.report.specs.File.{termText, conditionText}
-use Rattle.report.proofs.Puts.{puts-length}
 use Rattle.report.proofs.file.put_condition.Statement.{statement}
 use Rattle.report.proofs.file.put_condition.Tie as tie
 

@@ -1,12 +1,10 @@
 -- `file::put_file` meets its contract: line 1, line 2 and the rows, one after the other. Assumes
 -- nothing.
 use borrow.Author.Needs.{needs}
-use native.Mathlib.Omega.{arith}
 use mathlib.Core.List.{_++_}
 use Rattle.text.specs.Words.{PNP, version1}
 use Rattle.report.specs.File.{fileText}
 use Rattle.report.proofs.Lines.{puts-line}
-use Rattle.report.proofs.Puts.{puts-length}
 use Rattle.report.proofs.file.put_file.Statement.{statement}
 use Rattle.report.proofs.file.put_file.Tie as tie
 
