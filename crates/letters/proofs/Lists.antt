@@ -1,13 +1,14 @@
 -- Tests of numbers and of lists: what a loop that counts from the front needs, and what passing
 -- says of each element. Assumes nothing.
 use Prim.Native.Nat.{ℕ, zero, suc, _+_, _<_, _≤_}
-use borrow.Author.Tests.{eqb-true, eq-eqb, ne-eqb, leb-true, le-leb}
+use borrow.Author.Tests.{eqb-true, eq-eqb, ne-eqb, leb-true, le-leb, ltb-true, ltb-false}
 use native.Mathlib.Numerals.{add-one}
 use native.Mathlib.Omega.{arith}
-use mathlib.Core.Bool.{Bool, true, false, _&&_, _||_, and-assoc}
+use mathlib.Core.Bool.{Bool, true, false, _&&_, _||_, not, and-assoc, true≢false}
 use mathlib.Core.List.{List, [], _∷_, _++_}
+use mathlib.Core.Logic.{_⊎_, inl, inr}
 use mathlib.Core.Path.{_≡_, refl, sym}
-use lib.Dec.{eqb, leb}
+use lib.Dec.{eqb, leb, ltb}
 use lib.ListN.{length, getD, take, drop, length-take, drop-of-length-le}
 use lib.Seq.{drop-cons, getD-take}
 use Rattle.letters.specs.Lists.{within, every, some, sameBytes}
@@ -25,6 +26,20 @@ and-right false b h = absurd (let z : _≡_ {A = ℕ} 0 1 = cc in omega arith)
 pub or-neither : (a b : Bool) → (a || b) ≡ false → (a ≡ false) × (b ≡ false)
 or-neither true b h = absurd (let z : _≡_ {A = ℕ} 0 1 = cc in omega arith)
 or-neither false b h = (refl, h)
+
+-- A loop's test that is over at a number, or as soon as another is as wanted.
+module _ (n most x wanted : ℕ) where
+  pub test-on : (ltb n most && not (eqb x wanted)) ≡ true → n < most
+  test-on h = ltb-true n most (and-left (ltb n most) (not (eqb x wanted)) h)
+
+  pub test-over : (ltb n most && not (eqb x wanted)) ≡ false → (most ≤ n) ⊎ (x ≡ wanted)
+  test-over h = go (ltb n most) refl (eqb x wanted) refl h
+    where
+      go : (a : Bool) → ltb n most ≡ a → (b : Bool) → eqb x wanted ≡ b
+          → (a && not b) ≡ false → (most ≤ n) ⊎ (x ≡ wanted)
+      go false p b q r = inl (ltb-false n most p)
+      go true p true q r = inr (eqb-true x wanted q)
+      go true p false q r = absurd (true≢false r)
 
 -- A number in a range lies between its ends, and one between them is in it.
 module _ (least most n : ℕ) where
