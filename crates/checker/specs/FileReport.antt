@@ -3,6 +3,7 @@ use Prim.Native.Nat.{ℕ}
 use mathlib.Core.List.{List}
 use lib.ListN.{length, replicate}
 use Rattle.scratch.specs.Room.{mostRoom}
+use Rattle.scratch.specs.inner.Index.{mostIndex}
 use Rattle.verdict.specs.Buffer.{written}
 use Rattle.search.specs.Lent.{Lent, lentLists}
 
@@ -22,10 +23,12 @@ abbrev pub callOf : FileReport → List ℕ → Call
 callOf file out =
     record { length = length (file .report); out = written (file .report) out; lent = file .lent }
 
--- "The program lends room 4,096 and a trace buffer of as many bytes."
+-- "The program lends room 4,096 and a trace buffer of as many bytes." Besides it lends the longest
+-- index that is of use, on which no answer hangs.
 abbrev pub programLent : Lent
 programLent =
-    let zeros : List ℕ = replicate mostRoom 0 in lentLists zeros zeros zeros zeros zeros
+    let zeros : List ℕ = replicate mostRoom 0 in
+    lentLists zeros zeros (replicate mostIndex 0) zeros
 
 -- No report of the program is longer.
 abbrev pub mostReport : ℕ

@@ -1,6 +1,7 @@
 // The checker: the bytes of a table file in, the bytes of its report, of its totals or of its table
 // written again out. specs/FileReport.antt and specs/FileLoad.antt, and `RightWriting` of the crate
 // demands, say what is right, for every file and all lent memory.
+use scratch::MOST_INDEX;
 use table::MOST_BYTES;
 use table::Outcome;
 use table::Table;
@@ -25,27 +26,25 @@ const LOAD_START: u32 = 1;
 
 const LOAD_TICKS: u32 = 1000;
 
-// Reads the file, searches its table with the scratch and the trace buffer that are lent, writes
-// the report from the front of `out`, and answers the report's length. If that is more than `out`
-// holds, `out` has the report's front. The scratch of a refused file is unchanged.
+// Reads the file, searches its table with the scratch, the index and the trace buffer that are
+// lent, writes the report from the front of `out`, and answers the report's length. If that is more
+// than `out` holds, `out` has the report's front. The lent memory of a refused file is unchanged.
 pub fn check(
     bytes: &[u8],
     states: &mut [u64],
-    predecessors: &mut [u16],
-    letters: &mut [u8],
     lost: &mut [u16],
+    index: &mut [u16],
     trace: &mut [u8],
     out: &mut [u8],
 ) -> usize
     ensures { λ r. ⌜ record {
       length = r;
       out = now (out .exit);
-      lent = lentLists (now (states .exit)) (now (predecessors .exit)) (now (letters .exit))
-          (now (lost .exit)) (now (trace .exit));
+      lent = lentLists (now (states .exit)) (now (lost .exit)) (now (index .exit))
+          (now (trace .exit));
     }
-        ≡ checkCall (now (bytes .entry)) (lentLists (now (states .entry))
-        (now (predecessors .entry))
-        (now (letters .entry)) (now (lost .entry)) (now (trace .entry))) (now (out .entry)) ⌝ }
+        ≡ checkCall (now (bytes .entry)) (lentLists (now (states .entry)) (now (lost .entry))
+        (now (index .entry)) (now (trace .entry))) (now (out .entry)) ⌝ }
 {
     let read = reader::read(bytes);
     let outcome = read.outcome;
@@ -53,7 +52,7 @@ pub fn check(
         Outcome::Refused(refusal) => report::write(Found::Refused(refusal), 0, 0, &*trace, out),
         Outcome::Accepted => {
             let table = read.table;
-            let found = search::search(table, states, predecessors, letters, lost, trace);
+            let found = search::search(table, states, lost, index, trace);
             report::write(found, table.count, table.signals, &*trace, out)
         }
     }
@@ -66,19 +65,10 @@ pub fn check_file(bytes: &[u8], out: &mut [u8]) -> usize
         ≡ written (checkAnswer (now (bytes .entry)) programLent .report) (now (out .entry)) ⌝ }
 {
     let mut states = [0u64; ROOM];
-    let mut predecessors = [0u16; ROOM];
-    let mut letters = [0u8; ROOM];
     let mut lost = [0u16; ROOM];
+    let mut index = [0u16; MOST_INDEX];
     let mut trace = [0u8; ROOM];
-    check(
-        bytes,
-        &mut states,
-        &mut predecessors,
-        &mut letters,
-        &mut lost,
-        &mut trace,
-        out,
-    )
+    check(bytes, &mut states, &mut lost, &mut index, &mut trace, out)
 }
 
 // Reads the file, runs its table through the load of the program `loadtable`, writes the totals

@@ -11,10 +11,10 @@ refusing c = c .before .before .before .before
 
 abbrev searching : tie.After-write2 → tie.After-search
 searching c = c .before .before .before .before .before .before .before .before .before .before
-    .before .before .before
+    .before
 
 abbrev accepting : tie.After-search → tie.After-enum-told
-accepting c = c .before .before .before .before .before .before .before
+accepting c = c .before .before .before .before .before .before
 
 returns : tie.Need-returns
 returns c =
@@ -39,4 +39,4 @@ check-spec =
     (λ c κs. search needs) (λ c. search needs) (λ c κs. search needs) (λ c. search needs)
     (λ c κs. search needs) (λ c κs. search needs) (λ c. search needs) (λ c. search needs) returns
     (λ c. search needs) (λ c. search needs) (λ c. search needs) (λ c. search needs)
-    (λ c. search needs) (λ c. search needs) returns-2)
+    (λ c. search needs) returns-2)
