@@ -36,6 +36,7 @@ use Rattle.reader.proofs.Only as ReadingOnly
 use Rattle.load.specs.Load.{loadOf, totalsOf, noTotals, longestRun, runAnswer}
 use Rattle.verdict.specs.declared.RowLists.{RowLists}
 use Rattle.verdict.specs.Found.{Verdict, valuesOf, soundFound, trappedFound}
+use Rattle.scratch.specs.Room.{zeros}
 use Rattle.search.specs.Lent.{Lent, Searched, roomOf, systemOf, traced}
 use Rattle.search.specs.inner.Computed.{searchAnswer}
 use Rattle.demands.specs.Watching.{recordAfter, eventsOver, CallValid}
@@ -197,6 +198,22 @@ module _ (table : Table) (one other : Lent) (lengths : SameLengths one other) wh
   pub same-scratch : tableValid table ≡ true
       → SameScratch (searchAnswer table one .lent) (searchAnswer table other .lent)
   same-scratch = SameInput.same-scratch table one other lengths
+
+-- Document 02, ask 7: "Verdict, trace, lost number and count must be the same for every table and
+-- room", with the refusal, whatever the lengths of lists and index and whatever they held. The index
+-- is work space: afterwards it is all 0, and under 17 it is unchanged (`search-answered`).
+module _ (table : Table) (one other : Lent) (room : roomOf one ≡ roomOf other)
+    (buffer : length (one .trace) ≡ length (other .trace)) where
+  pub room-chooses : searchAnswer table one .found ≡ searchAnswer table other .found
+  room-chooses = SameInput.room-chooses table one other room buffer
+
+  pub room-shows : take (searchValues table one .length) (searchAnswer table one .lent .trace)
+      ≡ take (searchValues table one .length) (searchAnswer table other .lent .trace)
+  room-shows = SameInput.room-shows table one other room buffer
+
+pub index-emptied : (table : Table) (lent : Lent) → tableValid table ≡ true
+    → searchAnswer table lent .lent .index ≡ zeros (lent .index)
+index-emptied = SameInput.index-emptied
 
 -- "The signals and rows alone choose the verdict", with its trace, lost number and count, wherever
 -- the states and the trace fit.

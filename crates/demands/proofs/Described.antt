@@ -21,12 +21,12 @@ use Rattle.demands.proofs.NeverFires.{never-right, lists-only}
 use Rattle.demands.proofs.ScratchLaws.{scratch-same}
 
 -- Lent memory that agrees in all lists is the same.
-lent-same : (one other : Lent) → SameScratch one other → one .trace ≡ other .trace → one ≡ other
-lent-same one other s t = λ i. record {
+lent-same : (one other : Lent) → SameScratch one other → one .index ≡ other .index
+    → one .trace ≡ other .trace → one ≡ other
+lent-same one other s x t = λ i. record {
   states = s .states i;
-  predecessors = s .predecessors i;
-  letters = s .letters i;
   lost = s .lost i;
+  index = x i;
   trace = t i;
 }
 
@@ -36,7 +36,8 @@ module _ (table : Table) (lent : Lent) where
   entries-entered n fit = record {
     lengths = filled-lengths table lent n fit;
     scratch = scratch-held table lent n fit (withEntries table lent)
-        (record { states = refl; predecessors = refl; letters = refl; lost = refl });
+        (record { states = refl; lost = refl });
+    index = refl;
     trace = refl;
   }
 
@@ -50,11 +51,10 @@ module _ (table : Table) (lent : Lent) where
       lent-same held (withEntries table lent) (scratch-same table n (e .scratch) (own .scratch)
       (record {
         states = sym (a .states) ∙ b .states;
-        predecessors = sym (a .predecessors) ∙ b .predecessors;
-        letters = sym (a .letters) ∙ b .letters;
         lost = sym (a .lost) ∙ b .lost;
+        index = sym (a .index) ∙ b .index;
         trace = sym (a .trace) ∙ b .trace;
-      })) (e .trace)
+      })) (e .index) (e .trace)
 
   -- The lists of rows are right, and no others are.
   pub lists-right : (n : ℕ) → Fit table lent n

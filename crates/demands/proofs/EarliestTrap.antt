@@ -86,14 +86,13 @@ module _ (table : Table) (n : ℕ) (lent : Lent) (held : ScratchHeld table n len
           → length (held .trace e) ≤ e
       go zero ih h = omega (arith, ap length (held .entry 0 h .first refl .0))
       go (suc e) ih h =
-          let before : ℕ = getD (lent .predecessors) (suc e) 0 in
           let later = held .entry (suc e) h .later (omega arith) in
           omega (
             arith,
-            later .0,
-            ih before (later .0) (omega (arith, later .0)),
-            ap length (later .1),
-            length-append (held .trace before) (getD (lent .letters) (suc e) 0 ∷ []),
+            later .2,
+            ih (later .0) (later .2) (omega (arith, later .2)),
+            ap length (later .3),
+            length-append (held .trace (later .0)) (later .1 ∷ []),
           )
 
   pub trace-low : length w < n

@@ -29,7 +29,7 @@ use Rattle.scratch.specs.Room.{zeros}
 use Rattle.verdict.proofs.Buffer.{written-length}
 use Rattle.search.specs.Lent.{Lent, Searched, roomOf, systemOf}
 use Rattle.search.specs.inner.Computed.{entriesWithin, searchAnswer}
-use Rattle.search.proofs.Room.{room-states, room-predecessors, room-letters, room-lost}
+use Rattle.search.proofs.Room.{room-states, room-lost}
 use Rattle.demands.specs.Searching.{Fit, SameLengths, SameScratch, LostOrZero, EntryHeld}
 use Rattle.demands.specs.Searching.{ScratchHeld}
 use Rattle.demands.specs.inner.Answers.{withEntries, ComputedAnswer}
@@ -90,14 +90,6 @@ module _ (table : Table) (lent : Lent) (n : ℕ) (fit : Fit table lent n) where
     state-is e h = ap (λ (l : List ℕ). getD l e 0) (same .states)
         ∙ place-at (λ d. packed (d .state)) (lent .states) (room-states lent) e h
 
-    before-is : (e : ℕ) → e < n → getD (held .predecessors) e 0 ≡ entriesIn table lent .before e
-    before-is e h = ap (λ (l : List ℕ). getD l e 0) (same .predecessors)
-        ∙ place-at (λ d. d .before) (lent .predecessors) (room-predecessors lent) e h
-
-    letter-is : (e : ℕ) → e < n → getD (held .letters) e 0 ≡ entriesIn table lent .letter e
-    letter-is e h = ap (λ (l : List ℕ). getD l e 0) (same .letters)
-        ∙ place-at (λ d. d .letter) (lent .letters) (room-letters lent) e h
-
     lost-is : (e : ℕ) → e < n → getD (held .lost) e 0
         ≡ lostWithin (systemOf table) (entriesIn table lent .count) (entriesIn table lent .state e)
     lost-is e h = ap (λ (l : List ℕ). getD l e 0) (same .lost)
@@ -119,13 +111,12 @@ module _ (table : Table) (lent : Lent) (n : ℕ) (fit : Fit table lent n) where
           first = λ z. (
             rw z (trace-zero E),
             ap (E .state) z ∙ all-finished .first,
-            before-is e h ∙ ap (E .before) z ∙ all-finished .first-before,
-            letter-is e h ∙ ap (E .letter) z ∙ all-finished .first-letter,
           );
           later = λ z. (
-            rw (before-is e h) (all-finished .falls e z low),
-            rw (before-is e h, letter-is e h)
-                (entry-step (systemOf table) (system-lawful table) E _ _ all-finished e z low),
+            E .before e,
+            E .letter e,
+            all-finished .falls e z low,
+            entry-step (systemOf table) (system-lawful table) E _ _ all-finished e z low,
           );
           lost = rw (lost-is e h)
               (number-lost (systemOf table) (system-lawful table) E all-finished e low);
@@ -150,10 +141,6 @@ module _ (table : Table) (lent : Lent) (n : ℕ) (fit : Fit table lent n) where
               (omega (arith, as-many));
           states-end = rw (same .states)
               (place-end (λ d. packed (d .state)) (lent .states) (room-states lent));
-          predecessors-end = rw (same .predecessors)
-              (place-end (λ d. d .before) (lent .predecessors) (room-predecessors lent));
-          letters-end = rw (same .letters)
-              (place-end (λ d. d .letter) (lent .letters) (room-letters lent));
           lost-end = rw (same .lost)
               (place-end
               (λ d. lostWithin (systemOf table) (E .count) (d .state))
@@ -161,6 +148,9 @@ module _ (table : Table) (lent : Lent) (n : ℕ) (fit : Fit table lent n) where
         }
 
 -- Every answer leaves the lists as long as they were.
+zeroed : (l : List ℕ) → length l ≡ length (zeros l)
+zeroed l = sym (length-replicate (length l) 0)
+
 module _ (table : Table) (lent : Lent) where
   pub filled-lengths : (n : ℕ) → Fit table lent n → SameLengths lent (withEntries table lent)
   filled-lengths n fit =
@@ -168,31 +158,24 @@ module _ (table : Table) (lent : Lent) where
       record {
         states = sym (column-length (λ d. packed (d .state)) (length (lent .states))
             (entriesWithin (roomOf lent) table) (omega (arith, room-states lent)));
-        predecessors = sym (column-length (λ d. d .before) (length (lent .predecessors))
-            (entriesWithin (roomOf lent) table) (omega (arith, room-predecessors lent)));
-        letters = sym (column-length (λ d. d .letter) (length (lent .letters))
-            (entriesWithin (roomOf lent) table) (omega (arith, room-letters lent)));
         lost = sym (column-length
             (λ d. lostWithin (systemOf table) (entriesIn table lent .count) (d .state))
             (length (lent .lost)) (entriesWithin (roomOf lent) table)
             (omega (arith, room-lost lent)));
+        index = zeroed (lent .index);
         trace = refl;
       }
 
   pub lengths-kept : SameLengths lent (searchAnswer table lent .lent)
   lengths-kept = go (one-of-five table lent)
     where
-      zeroed : (l : List ℕ) → length l ≡ length (zeros l)
-      zeroed l = sym (length-replicate (length l) 0)
-
       go : {a : Searched} → ComputedAnswer table lent a → SameLengths lent (a .lent)
       go (is17 p) =
-          record { states = refl; predecessors = refl; letters = refl; lost = refl; trace = refl }
+          record { states = refl; lost = refl; index = refl; trace = refl }
       go (is20 p m) = record {
         states = zeroed (lent .states);
-        predecessors = zeroed (lent .predecessors);
-        letters = zeroed (lent .letters);
         lost = zeroed (lent .lost);
+        index = zeroed (lent .index);
         trace = refl;
       }
       go (is21 f t l) = filled-lengths _ f
@@ -201,8 +184,7 @@ module _ (table : Table) (lent : Lent) where
           let s = filled-lengths _ f in
           record {
             states = s .states;
-            predecessors = s .predecessors;
-            letters = s .letters;
             lost = s .lost;
+            index = s .index;
             trace = sym (written-length w (lent .trace) l);
           }

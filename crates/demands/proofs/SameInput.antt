@@ -9,6 +9,7 @@ use lib.ListN.{length, take}
 use Rattle.table.specs.Valid.{tableValid, rowsOf}
 use Rattle.table.specs.declared.Table.{Table}
 use Rattle.traces.specs.inner.Verdicts.{Trapped, Sound}
+use Rattle.scratch.specs.Room.{zeros}
 use Rattle.verdict.specs.Found.{valuesOf, soundFound, trappedFound}
 use Rattle.verdict.proofs.Buffer.{written-front}
 use Rattle.search.specs.Lent.{Lent, Searched, roomOf, systemOf, cleared, traced}
@@ -21,69 +22,94 @@ use Rattle.demands.proofs.Described.{lists-right}
 use Rattle.demands.proofs.NeverFires.{lists-only}
 use Rattle.demands.proofs.SearchLaws.{fit-cases}
 
--- Lent memory of the same lengths: the answers differ at most in what 17 leaves, and in the trace
--- buffer.
-module _ (table : Table) (one other : Lent) (lengths : SameLengths one other) where
+-- Lent memory with the same room, and trace buffers of one length: the answers differ at most in
+-- how long the lists are, in what 17 leaves, and in the trace buffer behind the trace.
+module _ (table : Table) (one other : Lent) (room : roomOf one ≡ roomOf other)
+    (buffer : length (one .trace) ≡ length (other .trace)) where
   record SameAnswer (a : Searched) : Type 0 where
     found : a .found ≡ searchAnswer table other .found
-    scratch : tableValid table ≡ true
+    front : take (valuesOf (a .found) .length) (a .lent .trace)
+        ≡ take (valuesOf (a .found) .length) (searchAnswer table other .lent .trace)
+    scratch : SameLengths one other → tableValid table ≡ true
         → SameScratch (a .lent) (searchAnswer table other .lent)
 
   same-answer : {a b : Searched} → ComputedAnswer table other b → a .found ≡ b .found
-      → (tableValid table ≡ true → SameScratch (a .lent) (b .lent)) → SameAnswer a
-  same-answer is found scratch =
+      → take (valuesOf (a .found) .length) (a .lent .trace)
+      ≡ take (valuesOf (a .found) .length) (b .lent .trace)
+      → (SameLengths one other → tableValid table ≡ true → SameScratch (a .lent) (b .lent))
+      → SameAnswer a
+  same-answer is found front scratch =
       let same = answer-is table other is in
-      record { found = rw same found; scratch = λ passes. rw same (scratch passes) }
-
-  same-room : roomOf one ≡ roomOf other
-  unfolding roomOf
-  same-room = rw (lengths .states, lengths .predecessors, lengths .letters, lengths .lost)
+      record {
+        found = rw same found;
+        front = rw same front;
+        scratch = λ lengths passes. rw same (scratch lengths passes);
+      }
 
   same-fit : {n : ℕ} → Fit table one n → Fit table other n
-  same-fit f = record {
-    passes = f .passes;
-    count = f .count;
-    room = rw same-room at (f .room);
-  }
+  same-fit f = record { passes = f .passes; count = f .count; room = rw room at (f .room) }
 
-  same-cleared : SameScratch (cleared one) (cleared other)
-  same-cleared = record {
-    states = rw (lengths .states);
-    predecessors = rw (lengths .predecessors);
-    letters = rw (lengths .letters);
-    lost = rw (lengths .lost);
-  }
+  same-cleared : SameLengths one other → SameScratch (cleared one) (cleared other)
+  same-cleared lengths = record { states = rw (lengths .states); lost = rw (lengths .lost) }
 
-  same-entries : SameScratch (withEntries table one) (withEntries table other)
-  same-entries = record {
-    states = rw (same-room, lengths .states);
-    predecessors = rw (same-room, lengths .predecessors);
-    letters = rw (same-room, lengths .letters);
-    lost = rw (same-room, lengths .lost);
-  }
+  same-entries : SameLengths one other
+      → SameScratch (withEntries table one) (withEntries table other)
+  same-entries lengths =
+      record { states = rw (room, lengths .states); lost = rw (room, lengths .lost) }
 
   other-answer : {a : Searched} → ComputedAnswer table one a → SameAnswer a
-  other-answer (is17 p) = same-answer (is17 p) refl (λ q. absurd (true≢false (sym q ∙ p)))
-  other-answer (is20 p m) = same-answer (is20 p (rw same-room at m)) refl (λ q. same-cleared)
+  other-answer (is17 p) =
+      same-answer (is17 p) refl refl (λ lengths q. absurd (true≢false (sym q ∙ p)))
+  other-answer (is20 p m) =
+      same-answer (is20 p (rw room at m)) refl refl (λ lengths q. same-cleared lengths)
   other-answer (is21 f t l) =
-      same-answer (is21 (same-fit f) t (omega (arith, lengths .trace))) refl (λ q. same-entries)
+      same-answer (is21 (same-fit f) t (omega (arith, buffer))) refl refl
+      (λ lengths q. same-entries lengths)
   other-answer (isSound f s) =
-      same-answer (isSound (same-fit f) s) (rw same-room) (λ q. same-entries)
-  other-answer (isTrapped f t l) =
-      same-answer (isTrapped (same-fit f) t (omega (arith, lengths .trace))) (rw same-room)
-      (λ q. record {
-        states = same-entries .states;
-        predecessors = same-entries .predecessors;
-        letters = same-entries .letters;
-        lost = same-entries .lost;
-      })
+      same-answer (isSound (same-fit f) s) (rw room) refl (λ lengths q. same-entries lengths)
+  other-answer (isTrapped {w = w} f t l) =
+      let fits : length w ≤ length (other .trace) = omega (arith, buffer) in
+      same-answer (isTrapped (same-fit f) t fits) (rw room)
+      (written-front w (one .trace) l ∙ sym (written-front w (other .trace) fits))
+      (λ lengths q.
+      let same = same-entries lengths in record { states = same .states; lost = same .lost })
+
+  pub room-chooses : searchAnswer table one .found ≡ searchAnswer table other .found
+  room-chooses = other-answer (one-of-five table one) .found
+
+  pub room-shows : take (searchValues table one .length) (searchAnswer table one .lent .trace)
+      ≡ take (searchValues table one .length) (searchAnswer table other .lent .trace)
+  room-shows = other-answer (one-of-five table one) .front
+
+  same-lists-held : SameLengths one other → tableValid table ≡ true
+      → SameScratch (searchAnswer table one .lent) (searchAnswer table other .lent)
+  same-lists-held = other-answer (one-of-five table one) .scratch
+
+-- So it is with lists of the same lengths.
+module _ (table : Table) (one other : Lent) (lengths : SameLengths one other) where
+  same-room : roomOf one ≡ roomOf other
+  unfolding roomOf
+  same-room = rw (lengths .states, lengths .lost)
 
   pub same-found : searchAnswer table one .found ≡ searchAnswer table other .found
-  same-found = other-answer (one-of-five table one) .found
+  same-found = room-chooses table one other same-room (lengths .trace)
 
   pub same-scratch : tableValid table ≡ true
       → SameScratch (searchAnswer table one .lent) (searchAnswer table other .lent)
-  same-scratch = other-answer (one-of-five table one) .scratch
+  same-scratch = same-lists-held table one other same-room (lengths .trace) lengths
+
+-- The index is all 0 afterwards, or as it was.
+module _ (table : Table) (lent : Lent) where
+  pub index-emptied : tableValid table ≡ true
+      → searchAnswer table lent .lent .index ≡ zeros (lent .index)
+  index-emptied passes = go (one-of-five table lent)
+    where
+      go : {a : Searched} → ComputedAnswer table lent a → a .lent .index ≡ zeros (lent .index)
+      go (is17 p) = absurd (true≢false (sym passes ∙ p))
+      go (is20 p m) = refl
+      go (is21 f t l) = refl
+      go (isSound f s) = refl
+      go (isTrapped f t l) = refl
 
 -- Tables with the same signals and rows, and lent memory that holds the entries and the trace.
 module _ (one other : Table) (lent held : Lent) (n : ℕ) (fit : Fit one lent n)

@@ -3,36 +3,21 @@
 use Prim.Native.Nat.{ℕ, zero, suc, _<_}
 use native.Mathlib.Decide.{ℕ-discrete, decLt}
 use native.Mathlib.Omega.{arith}
-use mathlib.Core.List.{List, [], _∷_, _++_}
+use mathlib.Core.List.{List}
 use mathlib.Core.Logic.{inl, inr}
 use mathlib.Core.Path.{_≡_, sym, ap, _∙_}
-use lib.ListN.{length, getD, take, length-append}
-use lib.Seq.{ext-getD, getD-append-seam, take-append-seam}
+use lib.ListN.{length, getD}
+use lib.Seq.{ext-getD}
 use Rattle.letters.specs.Lists.{ZeroFrom}
 use Rattle.table.specs.declared.Table.{Table}
 use Rattle.traces.specs.Order.{Earlier}
-use Rattle.traces.specs.Trace.{run, Reached}
+use Rattle.traces.specs.Trace.{Reached}
 use Rattle.traces.proofs.Order.{earlier-irrefl, earlier-trans, not-after-antisym}
 use Rattle.traces.proofs.Doomed.{lost-unique, lost-doomed}
 use Rattle.step.specs.declared.Phase.{Phase}
 use Rattle.successors.specs.State.{packed}
 use Rattle.search.specs.Lent.{Lent, systemOf}
 use Rattle.demands.specs.Searching.{LostOrZero, ScratchHeld, SameLengths, SameScratch}
-
--- What a list ends with, and what stands before it.
-snoc-same : (xs ys : List ℕ) (a b : ℕ) → xs ++ (a ∷ []) ≡ ys ++ (b ∷ []) → (xs ≡ ys) × (a ≡ b)
-snoc-same xs ys a b e =
-    let long : length xs ≡ length ys = omega (
-      arith,
-      length-append xs (a ∷ []),
-      length-append ys (b ∷ []),
-      ap (λ (l : List ℕ). length l) e,
-    ) in (
-      sym (take-append-seam xs (a ∷ [])) ∙ ap (take (length xs)) e
-          ∙ ap (λ (k : ℕ). take k (ys ++ (b ∷ []))) long ∙ take-append-seam ys (b ∷ []),
-      sym (getD-append-seam xs a [] 0) ∙ ap (λ (l : List ℕ). getD l (length xs) 0) e
-          ∙ ap (λ (k : ℕ). getD (ys ++ (b ∷ [])) k 0) long ∙ getD-append-seam ys b [] 0,
-    )
 
 module _ (table : Table) (n : ℕ) where
   -- An entry's state is reached.
@@ -96,45 +81,12 @@ module _ (table : Table) (n : ℕ) where
     states : (e : ℕ) → e < n → x .state e ≡ y .state e
     states e low = up-to (suc e) e (omega arith) low
 
-    traces : (e : ℕ) → e < n → x .trace e ≡ y .trace e
-    traces e low = same-trace x y e e low low (states e low)
-
     -- the number of a state
     number-same : (e : ℕ) → e < n → getD (l .states) e 0 ≡ getD (m .states) e 0
     number-same e low =
         x .entry e low .number ∙ ap packed (states e low) ∙ sym (y .entry e low .number)
 
-    -- Entries with the same trace are the same.
-    trace-place : (p q : ℕ) → p < n → q < n → x .trace p ≡ y .trace q → p ≡ q
-    trace-place p q h k is = go (decLt p q) (decLt q p)
-      where
-        same : x .state p ≡ x .state q
-        same = sym (x .entry p h .leads) ∙ ap (run (systemOf table) (systemOf table .start)) is
-            ∙ y .entry q k .leads ∙ sym (states q k)
-
-        go : Dec (p < q) → Dec (q < p) → p ≡ q
-        go (yes d) c = absurd (x .once p q d k same)
-        go (no d) (yes c) = absurd (x .once q p c h (sym same))
-        go (no d) (no c) = omega arith
-
-    -- its predecessor and letter
-    back-same : (e : ℕ) → e < n → (getD (l .predecessors) e 0 ≡ getD (m .predecessors) e 0)
-        × (getD (l .letters) e 0 ≡ getD (m .letters) e 0)
-    back-same e low = go (decLt 0 e)
-      where
-        go : Dec (0 < e) → (getD (l .predecessors) e 0 ≡ getD (m .predecessors) e 0)
-            × (getD (l .letters) e 0 ≡ getD (m .letters) e 0)
-        go (yes h) =
-            let a = x .entry e low .later h in
-            let b = y .entry e low .later h in
-            let both = snoc-same _ _ _ _ (sym (a .1) ∙ traces e low ∙ b .1) in
-            (trace-place _ _ (omega (arith, a .0)) (omega (arith, b .0)) (both .0), both .1)
-        go (no h) =
-            let z : e ≡ 0 = omega arith in
-            let a = x .entry e low .first z in
-            let b = y .entry e low .first z in
-            (a .2 ∙ sym (b .2), a .3 ∙ sym (b .3))
-
+    -- its lost number
     lost-same : (e : ℕ) → e < n → getD (l .lost) e 0 ≡ getD (m .lost) e 0
     lost-same e low = go (x .entry e low .lost) (rw (states e low) (y .entry e low .lost))
       where
@@ -159,10 +111,5 @@ module _ (table : Table) (n : ℕ) where
     scratch-same long = record {
       states = lists-same (l .states) (m .states) (long .states) number-same (x .states-end)
           (y .states-end);
-      predecessors = lists-same (l .predecessors) (m .predecessors) (long .predecessors)
-          (λ e h. back-same e h .0)
-          (x .predecessors-end) (y .predecessors-end);
-      letters = lists-same (l .letters) (m .letters) (long .letters) (λ e h. back-same e h .1)
-          (x .letters-end) (y .letters-end);
       lost = lists-same (l .lost) (m .lost) (long .lost) lost-same (x .lost-end) (y .lost-end);
     }

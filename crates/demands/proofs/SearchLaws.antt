@@ -227,7 +227,7 @@ module _ (table : Table) (lent : Lent) (n : ℕ) (fit : Fit table lent n) where
   pub scratch-is : SameScratch (searchAnswer table lent .lent) (withEntries table lent)
   scratch-is = fit-cases (λ a. SameScratch (a .lent) (withEntries table lent)) (λ w k t l. same)
       (λ s. same)
-      (λ w k t l. record { states = refl; predecessors = refl; letters = refl; lost = refl })
+      (λ w k t l. record { states = refl; lost = refl })
     where
       same : SameScratch (withEntries table lent) (withEntries table lent)
-      same = record { states = refl; predecessors = refl; letters = refl; lost = refl }
+      same = record { states = refl; lost = refl }

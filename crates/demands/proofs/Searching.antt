@@ -11,7 +11,10 @@ use Rattle.traces.specs.System.{System}
 use Rattle.traces.specs.Trace.{run, Unbroken, Reached}
 use Rattle.traces.specs.Doomed.{Doomed}
 use Rattle.traces.specs.Count.{ReachedMany}
+use Rattle.traces.specs.inner.Entries.{Entries, Finished}
+use Rattle.traces.specs.inner.Lists.{FirstLeads}
 use Rattle.traces.specs.inner.Verdicts.{Trapped, Sound}
+use Rattle.traces.proofs.Lists.{predecessor-exact}
 use Rattle.traces.proofs.Verdict.{trapped-not-sound}
 use Rattle.step.specs.declared.Phase.{Phase}
 use Rattle.successors.specs.State.{packed}
@@ -102,6 +105,13 @@ module _ (X : System) where
 
   pub never-both : (w : List ℕ) (k : ℕ) → Trapped X w k → Sound X → ⊥
   never-both = trapped-not-sound X
+
+-- Document 02, ask 7: predecessor and letter are found "again from the states". Of all entries that
+-- have a letter to a state, breaking no row, the predecessor is the first, and of its letters to that
+-- state the letter is the least: so it is in the finished entries of any system.
+pub predecessor-exactly : {X : System} {E : Entries X} → Finished X E → {e : ℕ} → 0 < e
+    → e < E .count → (p l : ℕ) → ((E .before e ≡ p) × (E .letter e ≡ l)) ↔ FirstLeads X E e p l
+predecessor-exactly = predecessor-exact
 
 -- What `ScratchHeld` says of lists of given lengths fixes every element of them.
 pub scratch-only : (table : Table) (n : ℕ) (one other : Lent) → SameLengths one other

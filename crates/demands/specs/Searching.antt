@@ -19,6 +19,7 @@ use Rattle.step.specs.declared.Phase.{Phase}
 use Rattle.step.specs.Tick.{startPhases}
 use Rattle.step.specs.Fires.{Fires}
 use Rattle.successors.specs.State.{packed}
+use Rattle.scratch.specs.Room.{zeros}
 use Rattle.verdict.specs.declared.RowLists.{RowLists}
 use Rattle.verdict.specs.Found.{Values, valuesOf, refusedFound, soundFound, trappedFound}
 use Rattle.search.specs.Lent.{Lent, Searched, roomOf, systemOf, cleared, traced}
@@ -65,16 +66,13 @@ pub record RightLists (s : ℕ) (rows : List Row) (lists : RowLists) : Type 0 wh
 -- Lent memory of the same size, whatever it holds.
 pub record SameLengths (one other : Lent) : Type 0 where
   pub states : length (one .states) ≡ length (other .states)
-  pub predecessors : length (one .predecessors) ≡ length (other .predecessors)
-  pub letters : length (one .letters) ≡ length (other .letters)
   pub lost : length (one .lost) ≡ length (other .lost)
+  pub index : length (one .index) ≡ length (other .index)
   pub trace : length (one .trace) ≡ length (other .trace)
 
--- The four scratch lists hold the same.
+-- The two scratch lists hold the same.
 pub record SameScratch (one other : Lent) : Type 0 where
   pub states : one .states ≡ other .states
-  pub predecessors : one .predecessors ≡ other .predecessors
-  pub letters : one .letters ≡ other .letters
   pub lost : one .lost ≡ other .lost
 
 -- "The lost number (0 if not doomed)."
@@ -82,8 +80,8 @@ abbrev pub LostOrZero : (X : System) → X .State → ℕ → Type 0
 LostOrZero X s n = ((n ≡ 0) × (Doomed X s → ⊥)) ⊎ Lost X s n
 
 -- What scratch holds of entry e, with `state` and `trace` giving the states of the entries and
--- their earliest traces. "Each entry has the state, the number of its predecessor entry, the letter
--- between them, and the lost number (0 if not doomed)."
+-- their earliest traces. Document 02, ask 7: "Scratch holds states and lost numbers in the same
+-- order."
 pub record EntryHeld (table : Table) (state : ℕ → List Phase) (trace : ℕ → List ℕ) (lent : Lent)
     (e : ℕ)
     : Type 0 where
@@ -92,13 +90,12 @@ pub record EntryHeld (table : Table) (state : ℕ → List Phase) (trace : ℕ �
   pub earliest : (v : List ℕ) → Unbroken (systemOf table) v
       → run (systemOf table) (systemOf table .start) v ≡ state e → NotAfter (trace e) v
   pub number : getD (lent .states) e 0 ≡ packed (state e)
-  -- "Entry 0 is all waiting, with predecessor 0 and letter 0."
+  -- "Entry 0 is all waiting."
   pub first : e ≡ 0 → (trace e ≡ []) × (state e ≡ startPhases (rowsOf table))
-      × (getD (lent .predecessors) e 0 ≡ 0) × (getD (lent .letters) e 0 ≡ 0)
   -- "The predecessor is the state after the entry's earliest trace without its last letter, and the
-  -- letter is that last one."
-  pub later : 0 < e → (getD (lent .predecessors) e 0 < e)
-      × (trace e ≡ trace (getD (lent .predecessors) e 0) ++ (getD (lent .letters) e 0 ∷ []))
+  -- letter is that last one": both are found again, and stand in no list.
+  pub later : 0 < e → (before : ℕ) × (letter : ℕ) × (before < e)
+      × (trace e ≡ trace before ++ (letter ∷ []))
   pub lost : LostOrZero (systemOf table) (state e) (getD (lent .lost) e 0)
 
 -- "States reached by unbroken traces are entered once each, in the order of their earliest trace:
@@ -113,15 +110,14 @@ pub record ScratchHeld (table : Table) (n : ℕ) (lent : Lent) : Type 0 where
   pub order : (e f : ℕ) → e < f → f < n → Earlier (trace e) (trace f)
   -- "Scratch beyond the entries is set to 0, to the end of each list."
   pub states-end : ZeroFrom 0 n (lent .states)
-  pub predecessors-end : ZeroFrom 0 n (lent .predecessors)
-  pub letters-end : ZeroFrom 0 n (lent .letters)
   pub lost-end : ZeroFrom 0 n (lent .lost)
 
 -- Lent memory under a verdict, and under 21 ("21 leaves it as under a verdict"): the lists as long
--- as they were, the scratch with n entries, and the trace buffer as it was.
+-- as they were, the scratch with n entries, the index all 0, and the trace buffer as it was.
 pub record Entered (table : Table) (n : ℕ) (lent held : Lent) : Type 0 where
   pub lengths : SameLengths lent held
   pub scratch : ScratchHeld table n held
+  pub index : held .index ≡ zeros (lent .index)
   pub trace : held .trace ≡ lent .trace
 
 -- "The search tests 17, 20, 21": all that a call can answer, and what each answer says.
