@@ -200,8 +200,8 @@ module _ (table : Table) (one other : Lent) (lengths : SameLengths one other) wh
   same-scratch = SameInput.same-scratch table one other lengths
 
 -- Document 02, ask 7: "Verdict, trace, lost number and count must be the same for every table and
--- room", with the refusal, whatever the lengths of lists and index and whatever they held. The index
--- is work space: afterwards it is all 0, and under 17 it is unchanged (`search-answered`).
+-- room", with the refusal, whatever the lengths of lists and index and whatever they held. The
+-- index is work space: afterwards it is all 0, and under 17 it is unchanged (`search-answered`).
 module _ (table : Table) (one other : Lent) (room : roomOf one ≡ roomOf other)
     (buffer : length (one .trace) ≡ length (other .trace)) where
   pub room-chooses : searchAnswer table one .found ≡ searchAnswer table other .found

@@ -107,8 +107,8 @@ module _ (X : System) where
   never-both = trapped-not-sound X
 
 -- Document 02, ask 7: predecessor and letter are found "again from the states". Of all entries that
--- have a letter to a state, breaking no row, the predecessor is the first, and of its letters to that
--- state the letter is the least: so it is in the finished entries of any system.
+-- have a letter to a state, breaking no row, the predecessor is the first, and of its letters to
+-- that state the letter is the least: so it is in the finished entries of any system.
 pub predecessor-exactly : {X : System} {E : Entries X} → Finished X E → {e : ℕ} → 0 < e
     → e < E .count → (p l : ℕ) → ((E .before e ≡ p) × (E .letter e ≡ l)) ↔ FirstLeads X E e p l
 predecessor-exactly = predecessor-exact
