@@ -1,9 +1,9 @@
 //! Times `checktable`, `loadtable` and `writetable` against `plain` and prints markdown. Every run is a process of
 //! its own, timed from its start to its end, with the table as standard input and a file as standard output. The
 //! programs take turns, so that what else the machine does falls on both. It stops where the two do not print the
-//! same.
+//! same. In the same way `test_bare`, which lends the search an empty index, is timed against `checktable`.
 //!
-//!     timing RUNS FOLDER CHECKTABLE LOADTABLE WRITETABLE PLAIN NOTHING TABLE... -- TABLE... -- TABLE...
+//!     timing RUNS FOLDER CHECKTABLE LOADTABLE WRITETABLE BARE PLAIN NOTHING TABLE... -- TABLE... -- TABLE...
 //!
 //! FOLDER takes reports and the tables that are made here; NOTHING is a program that does nothing. The tables
 //! after the first `--` are run by `loadtable` alone, those after the second by `writetable` alone.
@@ -27,6 +27,10 @@ const GOAL_TIME: f64 = 10.0;
 /// The goal of `writetable`: with its start it takes less than so many milliseconds.
 const GOAL_WRITE: f64 = 5.0;
 
+/// With an empty index a table is run so many times, and the goal is less than so many milliseconds.
+const BARE_RUNS: usize = 5;
+const GOAL_BARE: f64 = 1000.0;
+
 /// A program, with the word that it is started with, if any.
 struct Program {
     path: PathBuf,
@@ -35,7 +39,8 @@ struct Program {
 
 struct Bench {
     runs: usize,
-    /// The product's program, `checktable`, `loadtable` or `writetable`, and the unverified one.
+    /// The product's program, `checktable`, `loadtable` or `writetable`, and the unverified one; or `test_bare`, and
+    /// `checktable` in the place of that.
     ours: Program,
     plain: Program,
     /// A file of no bytes, where reports go, and where tables that are made here go.
@@ -91,13 +96,13 @@ fn run(program: &Program, table: &Path, report: &Path) -> (f64, String) {
     }
 }
 
-/// Shows where two reports part, and ends.
-fn differ(table: &Path, ours: &str, plain: &str) -> ! {
+/// Shows where what a program prints parts from what is expected, and ends.
+fn differ(table: &Path, program: &Program, ours: &str, plain: &str) -> ! {
     let same = ours.lines().zip(plain.lines()).take_while(|(one, other)| one == other).count();
     let line = |text: &str| text.lines().nth(same).unwrap_or("nothing more").to_string();
     let (one, other) = (line(ours), line(plain));
     let place = format!("what is printed differs on {}, line {}", table.display(), same + 1);
-    fail(format!("{place}: the product prints '{one}', plain prints '{other}'"))
+    fail(format!("{place}: {} prints '{one}', expected is '{other}'", program.path.display()))
 }
 
 fn sorted(mut all: Vec<f64>) -> Vec<f64> {
@@ -116,7 +121,7 @@ impl Bench {
                 let start = run(program, &self.empty, &self.report).0;
                 let (took, printed) = run(program, table, &self.report);
                 if printed != expected {
-                    differ(table, &printed, &expected);
+                    differ(table, program, &printed, &expected);
                 }
                 if round > 0 {
                     on_empty.push(start);
@@ -307,6 +312,18 @@ fn print_runs(title: &str, program: &str, all: &[Measured]) {
     }
 }
 
+/// The tables that were run with an empty index beside `checktable`, and one line: the goal, and the largest time.
+fn print_bare(all: &[Measured]) {
+    println!("\nWith an empty index, {BARE_RUNS} runs:\n");
+    println!("| Table | States | Letters | Rows | test_bare best | checktable best |\n|-|-|-|-|-|-|");
+    for one in all {
+        println!("| `{}` | {} | {:.2} | {:.2} |", one.name, one.shape(), one.ours.best(), one.plain.best());
+    }
+    let [_, (time, slowest)] = largest(&all.iter().collect::<Vec<_>>());
+    let met = if time < GOAL_BARE { "met" } else { "not met" };
+    println!("\nGoal of {GOAL_BARE} ms with an empty index: {met}. Largest best time {time:.2} ms ({slowest}).");
+}
+
 fn print_growth(title: &str, all: &[Measured]) {
     print!("\n{title}\n\n| States | Letters | Rows | Moves | checktable best | ns a move ");
     println!("| plain best | ns a move | Ratio | Less start |\n|-|-|-|-|-|-|-|-|-|-|");
@@ -351,8 +368,8 @@ fn print_write_goal(all: &[Measured]) {
 
 fn main() {
     let words: Vec<String> = std::env::args().skip(1).collect();
-    let [runs, folder, checktable, loadtable, writetable, plain, nothing, tables @ ..] = &words[..] else {
-        let programs = "CHECKTABLE LOADTABLE WRITETABLE PLAIN NOTHING";
+    let [runs, folder, checktable, loadtable, writetable, bare, plain, nothing, tables @ ..] = &words[..] else {
+        let programs = "CHECKTABLE LOADTABLE WRITETABLE BARE PLAIN NOTHING";
         fail(format!("usage: timing RUNS FOLDER {programs} TABLE... -- TABLE... -- TABLE..."));
     };
     let runs = runs.parse().ok().filter(|&runs| runs > 0);
@@ -361,7 +378,7 @@ fn main() {
     let [tables, loads, writes] = [(); 3].map(|_| parts.next().unwrap_or_default());
     let folder = Path::new(folder);
     let program = |path: &String, word| Program { path: path.into(), word };
-    let beside = |ours: &String, word| Bench {
+    let beside = |ours: &String, runs, plain: &String, word| Bench {
         runs,
         ours: program(ours, None),
         plain: program(plain, word),
@@ -369,8 +386,9 @@ fn main() {
         report: folder.join("report"),
         made: folder.join("made.pnp"),
     };
-    let (bench, load) = (beside(checktable, None), beside(loadtable, Some("load")));
-    let writer = beside(writetable, Some("write"));
+    let (bench, load) = (beside(checktable, runs, plain, None), beside(loadtable, runs, plain, Some("load")));
+    let writer = beside(writetable, runs, plain, Some("write"));
+    let scan = beside(bare, BARE_RUNS, checktable, None);
     write(&bench.empty, "");
     let pass = || -> Vec<Vec<Measured>> {
         let start = vec![bench.measure(&bench.empty)];
@@ -386,12 +404,13 @@ fn main() {
         all = more.map(|(one, other)| one.into_iter().zip(other).map(|(a, b)| a.with(b)).collect()).collect();
     }
     let [start, loads, writes, measured, growth @ ..] = &all[..] else { return };
+    let scanned: Vec<Measured> = tables.iter().map(|table| scan.measure(table.as_ref())).collect();
 
     println!("Milliseconds, with the start of the process; {} runs of each program on each table.\n", PASSES * runs);
     println!("| Start alone | Best | Median |\n|-|-|-|");
     let nothing = program(nothing, None);
-    let bare = sorted((0..runs).map(|_| run(&nothing, &bench.empty, &bench.report).0).collect());
-    println!("| a program that does nothing | {:.2} | {:.2} |", bare[0], bare[runs / 2]);
+    let idle = sorted((0..runs).map(|_| run(&nothing, &bench.empty, &bench.report).0).collect());
+    println!("| a program that does nothing | {:.2} | {:.2} |", idle[0], idle[runs / 2]);
     for (name, times) in [("checktable", &start[0].ours), ("plain", &start[0].plain)] {
         println!("| `{name}` on a file of no bytes | {:.2} | {:.2} |", times.best(), times.median());
     }
@@ -410,6 +429,7 @@ fn main() {
     print_runs("The load, 1,000 ticks:", "loadtable", loads);
     print_runs("`writetable`:", "writetable", writes);
     print_write_goal(writes);
+    print_bare(&scanned);
     let all: Vec<&Measured> = measured.iter().chain(growth.iter().flatten()).collect();
     print_goal(&all);
 }

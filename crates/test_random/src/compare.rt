@@ -5,18 +5,17 @@ use crate::expected::Expected;
 use crate::expected::SOUND;
 use crate::expected::TRAPPED;
 use crate::lent::Held;
-use crate::lent::LETTERS_KEY;
+use crate::lent::INDEX_KEY;
 use crate::lent::LONGEST;
+use crate::lent::LONGEST_INDEX;
 use crate::lent::LOST_KEY;
 use crate::lent::Lengths;
-use crate::lent::PREDECESSORS_KEY;
 use crate::lent::STATES_KEY;
 use crate::lent::TRACE_KEY;
 use crate::lent::after_search;
+use crate::lent::rubbish;
 use crate::second::ALL_PARTS;
-use crate::second::LETTER;
 use crate::second::LOST;
-use crate::second::PREDECESSOR;
 use crate::second::STATE;
 use crate::second::TRACE;
 use table::Refusal;
@@ -77,6 +76,19 @@ fn wrong8(i: usize, places: usize, number: u8, right: u64, n: u8) -> u32 {
     wrong(i, places, number as u64, right % 256, n)
 }
 
+// The index is all 0 after the search, or unchanged where the scratch is.
+fn compare_index(index: [u16; LONGEST_INDEX], places: usize, cleared: bool, key: u64) -> u32 {
+    let mut bits: u32 = 0;
+    for i in 0..LONGEST_INDEX {
+        if places <= i {
+            break;
+        }
+        let right = if cleared { 0 } else { rubbish(key, i) };
+        bits = bits | wrong16(i, places, index[i], right, 7);
+    }
+    bits
+}
+
 // Under a verdict the trace buffer has the trace, "the rest unchanged".
 pub fn compare_lists(
     held: Held,
@@ -86,32 +98,20 @@ pub fn compare_lists(
     key: u64,
 ) -> u32 {
     let states = held.states;
-    let predecessors = held.predecessors;
-    let letters = held.letters;
     let lost = held.lost;
+    let index = held.index;
     let trace = held.trace;
     let used = right.used;
     let cleared = right.cleared;
-    let mut bits: u32 = 0;
+    let mut bits = compare_index(index, lengths.index, cleared, key ^ INDEX_KEY);
     for i in 0..LONGEST {
         let a = after_search(answer, STATE, i, used, cleared, key ^ STATES_KEY);
-        let b = after_search(
-            answer,
-            PREDECESSOR,
-            i,
-            used,
-            cleared,
-            key ^ PREDECESSORS_KEY,
-        );
-        let c = after_search(answer, LETTER, i, used, cleared, key ^ LETTERS_KEY);
         let d = after_search(answer, LOST, i, used, cleared, key ^ LOST_KEY);
         let e = after_search(answer, TRACE, i, right.length, false, key ^ TRACE_KEY);
         bits = bits
             | wrong(i, lengths.states, states[i], a, 5)
-            | wrong16(i, lengths.predecessors, predecessors[i], b, 6)
-            | wrong8(i, lengths.letters, letters[i], c, 7)
-            | wrong16(i, lengths.lost, lost[i], d, 8)
-            | wrong8(i, lengths.trace, trace[i], e, 9);
+            | wrong16(i, lengths.lost, lost[i], d, 6)
+            | wrong8(i, lengths.trace, trace[i], e, 8);
     }
     bits
 }

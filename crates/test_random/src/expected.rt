@@ -1,5 +1,6 @@
 // What a search should answer, from what the second search found and from what was lent.
 use crate::lent::Lengths;
+use crate::lent::room;
 use crate::second::Solved;
 
 pub const ABSENT: u8 = 0;
@@ -10,8 +11,8 @@ pub const TRAPPED: u8 = 2;
 
 // The answer: the number of a refusal or 0, the verdict, and its trace length, lost number, count
 // and set of rows that never fire, with those of them that a broken trace realises. With it goes
-// what the lent lists hold: the scratch has `used` entries, and the rest of it is 0 if `cleared`
-// and else unchanged. The trace buffer has `length` letters, the rest unchanged.
+// what the lent lists hold: the scratch has `used` entries, and the rest of it and the whole index
+// are 0 if `cleared` and else unchanged. The trace buffer has `length` letters, the rest unchanged.
 pub struct Expected {
     pub number: u8,
     pub verdict: u8,
@@ -22,18 +23,6 @@ pub struct Expected {
     pub with_break: u64,
     pub used: usize,
     pub cleared: bool,
-}
-
-fn smaller(a: usize, b: usize) -> usize {
-    if a < b { a } else { b }
-}
-
-// "Room is the shortest of the four lent scratch lists".
-fn room(l: Lengths) -> usize {
-    smaller(
-        smaller(l.states, l.predecessors),
-        smaller(l.letters, l.lost),
-    )
 }
 
 // "every other number or mark in the answer is 0 or absent". "A refused search gives no list."
@@ -57,7 +46,7 @@ pub fn expect(valid: bool, solved: Solved, lengths: Lengths) -> Expected {
     if !valid {
         return refused(17, 0, false);
     }
-    if room(lengths) < count {
+    if room(lengths.states, lengths.lost) < count {
         return refused(20, 0, true);
     }
     if lengths.trace < solved.length {

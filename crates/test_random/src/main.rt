@@ -35,6 +35,7 @@ use lent::Lengths;
 use lent::any_lengths;
 use lent::before_search;
 use lent::capped;
+use lent::capped_index;
 use loads::run_load;
 use random::any_table;
 use random::mixed;
@@ -75,28 +76,24 @@ struct Searched {
 fn search_lent(seed: u64, table: Table, lengths: Lengths) -> Searched {
     let before = before_search(seed);
     let mut states = before.states;
-    let mut predecessors = before.predecessors;
-    let mut letters = before.letters;
     let mut lost = before.lost;
+    let mut index = before.index;
     let mut trace = before.trace;
     let a = capped(lengths.states);
-    let b = capped(lengths.predecessors);
-    let c = capped(lengths.letters);
     let d = capped(lengths.lost);
-    let e = capped(lengths.trace);
+    let k = capped_index(lengths.index);
+    let t = capped(lengths.trace);
     let found = search::search(
         table,
         &mut states[..a],
-        &mut predecessors[..b],
-        &mut letters[..c],
         &mut lost[..d],
-        &mut trace[..e],
+        &mut index[..k],
+        &mut trace[..t],
     );
     let after = Held {
         states,
-        predecessors,
-        letters,
         lost,
+        index,
         trace,
     };
     Searched { found, after }
@@ -112,7 +109,7 @@ fn attempt(
     answer: &[u64; ALL_PARTS],
     tally: Tally,
 ) -> Tally {
-    let lengths = any_lengths(seed ^ 4, solved);
+    let lengths = any_lengths(seed ^ 4, seed ^ 9, solved);
     let right = expect(valid, solved, lengths);
     let searched = search_lent(seed, table, lengths);
     let found = searched.found;
@@ -121,7 +118,7 @@ fn attempt(
     let lists = compare_lists(struck(after, strike), lengths, answer, right, seed);
     let differs = lists | compare_answers(struck_answer(found, strike), right);
     let changed = is_struck(strike);
-    let noted = noted(tally, changed, differs);
+    let noted = noted(tally, changed, differs, lengths);
     let followed = follow(seed ^ 6, table, valid, tally.seen);
     let loaded = run_load(seed ^ 7, table, valid, tally.runs);
     let all = reported(changed, differs) | followed.differs | loaded.differs;

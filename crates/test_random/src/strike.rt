@@ -2,6 +2,7 @@
 // notices it.
 use crate::lent::Held;
 use crate::lent::LONGEST;
+use crate::lent::LONGEST_INDEX;
 use crate::lent::Lengths;
 use crate::random::below;
 use crate::random::byte_below;
@@ -10,11 +11,11 @@ use crate::random::one_in;
 use verdict::Found;
 use verdict::Summary;
 
-// The lists by number: states, predecessors, letters, lost numbers, trace, and the set of rows that
-// never fire, whose places are its bits.
-const LISTS: u8 = 6;
+// The lists by number: states, lost numbers, index, trace, and the set of rows that never fire,
+// whose places are its bits.
+const LISTS: u8 = 5;
 
-const NEVER: u8 = 5;
+const NEVER: u8 = 4;
 
 const BITS: usize = 64;
 
@@ -42,10 +43,9 @@ pub fn any_strike(seed: u64, lengths: Lengths, verdict: bool) -> Strike {
     let list = byte_below(own ^ 1, LISTS);
     let places = match list {
         0 => lengths.states,
-        1 => lengths.predecessors,
-        2 => lengths.letters,
-        3 => lengths.lost,
-        4 => lengths.trace,
+        1 => lengths.lost,
+        2 => lengths.index,
+        3 => lengths.trace,
         _ => if verdict { BITS } else { 0 },
     };
     if places == 0 {
@@ -78,6 +78,17 @@ fn strike_u16(list: [u16; LONGEST], n: u8, strike: Strike) -> [u16; LONGEST] {
     changed
 }
 
+fn strike_index(list: [u16; LONGEST_INDEX], n: u8, strike: Strike) -> [u16; LONGEST_INDEX] {
+    let mut changed = list;
+    let at = strike.at;
+    if strike.list == n {
+        if at < LONGEST_INDEX {
+            changed[at] = changed[at] ^ 1;
+        }
+    }
+    changed
+}
+
 fn strike_u8(list: [u8; LONGEST], n: u8, strike: Strike) -> [u8; LONGEST] {
     let mut changed = list;
     let at = strike.at;
@@ -92,20 +103,17 @@ fn strike_u8(list: [u8; LONGEST], n: u8, strike: Strike) -> [u8; LONGEST] {
 // The lists with the place changed, if there is one.
 pub fn struck(held: Held, strike: Strike) -> Held {
     let states = held.states;
-    let predecessors = held.predecessors;
-    let letters = held.letters;
     let lost = held.lost;
+    let index = held.index;
     let trace = held.trace;
     let states = strike_u64(states, 0, strike);
-    let predecessors = strike_u16(predecessors, 1, strike);
-    let letters = strike_u8(letters, 2, strike);
-    let lost = strike_u16(lost, 3, strike);
-    let trace = strike_u8(trace, 4, strike);
+    let lost = strike_u16(lost, 1, strike);
+    let index = strike_index(index, 2, strike);
+    let trace = strike_u8(trace, 3, strike);
     Held {
         states,
-        predecessors,
-        letters,
         lost,
+        index,
         trace,
     }
 }

@@ -5,6 +5,8 @@ use crate::expected::Expected;
 use crate::expected::SOUND;
 use crate::expected::TRAPPED;
 use crate::kinds::Kinds;
+use crate::lent::Lengths;
+use crate::lent::room;
 use crate::lists::larger;
 use crate::lists::more;
 use crate::lists::one_more;
@@ -22,6 +24,8 @@ pub struct Tally {
     pub agreed: usize,
     pub struck: usize,
     pub noticed: usize,
+    pub bare: usize,
+    pub indexed: usize,
     pub sound: usize,
     pub sound_with_rows: usize,
     pub trapped: usize,
@@ -49,7 +53,7 @@ pub struct Tally {
 }
 
 // So many lines are printed of it.
-const LINES: usize = 26;
+const LINES: usize = 28;
 
 // A walk that falls back through so many doomed states in a row is counted.
 const FALL: usize = 5;
@@ -60,6 +64,8 @@ pub fn none() -> Tally {
         agreed: 0,
         struck: 0,
         noticed: 0,
+        bare: 0,
+        indexed: 0,
         sound: 0,
         sound_with_rows: 0,
         trapped: 0,
@@ -117,7 +123,7 @@ pub(crate) fn print_difference(bits: u32, number: usize) {
         return;
     }
     let text: &[u8] = b"refusal #verdict #trace length #lost number #count #\
-        states #predecessors #letters #lost numbers #trace #\
+        states #lost numbers #index #trace #the way back #\
         the walk's lost numbers #a changed place #a watcher's refusal #\
         phases #events #event counts #rows that never fire #a load's refusal #totals #\
         a writer's refusal #the table read back #a file #the second table's file #\
@@ -132,9 +138,13 @@ pub(crate) fn print_difference(bits: u32, number: usize) {
     print_line(text, 23, number);
 }
 
-// The tally with a table whose place was changed, and whether the comparison noticed it.
-pub fn noted(tally: Tally, struck: bool, differs: u32) -> Tally {
+// The tally with a table whose place was changed, and whether the comparison noticed it; and with
+// an index that is empty, or has places for buckets behind those of the room.
+pub fn noted(tally: Tally, struck: bool, differs: u32, lengths: Lengths) -> Tally {
     let mut t = tally;
+    let room = room(lengths.states, lengths.lost);
+    t.bare = one_more_if(t.bare, lengths.index == 0);
+    t.indexed = one_more_if(t.indexed, room < lengths.index);
     t.struck = one_more_if(t.struck, struck);
     t.noticed = one_more_if(t.noticed, struck & (differs != 0));
     t
@@ -186,7 +196,8 @@ pub fn counted(
     runs: Runs,
 ) -> Tally {
     let kinds = solved.kinds;
-    print_difference(differs | unless(kinds.same, 10), t.tables);
+    let second = unless(solved.back, 9) | unless(kinds.same, 10);
+    print_difference(differs | second, t.tables);
     let sound = right.verdict == SOUND;
     let trapped = right.verdict == TRAPPED;
     let listed = with_never(t, right);
@@ -217,6 +228,8 @@ fn numbers(t: Tally) -> [usize; LINES] {
         t.agreed,
         t.struck,
         t.noticed,
+        t.bare,
+        t.indexed,
         t.sound,
         t.sound_with_rows,
         t.trapped,
@@ -244,7 +257,8 @@ fn numbers(t: Tally) -> [usize; LINES] {
 
 pub fn print(t: Tally) {
     let text: &[u8] =
-        b"tables #agreed #  with a place changed after the search #  of these noticed #\
+        b"tables #agreed #  with a place changed after the search #  of these noticed #  \
+        with an empty index #  with an index longer than the room #\
         sound #  with several rows and over 3 states #\
         trapped #  with an empty trace #  with a trace over 3 letters #  \
         with a lost number over 3 #\

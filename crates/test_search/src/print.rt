@@ -1,9 +1,10 @@
 // How a case, its answer and its lists are printed.
+ghost use Prim.Native.Nat.{_≤_};
+use crate::run::ALL;
+use crate::run::LONG;
+use crate::run::TRACE;
 use libc::STDOUT_FILENO;
 use verdict::Found;
-
-// The most places that a case lends of one list.
-pub const PLACES: usize = 12;
 
 pub fn print(word: &[u8]) {
     io::write_all(STDOUT_FILENO, word);
@@ -18,46 +19,22 @@ fn print_u64(n: u64) {
     print_number(b" ", n);
 }
 
-fn print_u16(n: u16) {
-    print_u64(n as u64);
-}
-
-fn print_u8(n: u8) {
-    print_u64(n as u64);
-}
-
-// A word, and after it the first n numbers of a list.
-pub fn print_u64s(word: &[u8], list: [u64; PLACES], n: usize) {
+// A word, and after it n numbers of the list, from a place on.
+pub fn print_part(word: &[u8], held: [u64; ALL], from: usize, n: usize)
+    requires { ⌜ from ≤ 10000 ⌝ }
+{
     print(word);
-    for i in 0..PLACES {
+    for i in 0..LONG {
         if i < n {
-            print_u64(list[i]);
-        }
-    }
-}
-
-pub fn print_u16s(word: &[u8], list: [u16; PLACES], n: usize) {
-    print(word);
-    for i in 0..PLACES {
-        if i < n {
-            print_u16(list[i]);
-        }
-    }
-}
-
-pub fn print_u8s(word: &[u8], list: [u8; PLACES], n: usize) {
-    print(word);
-    for i in 0..PLACES {
-        if i < n {
-            print_u8(list[i]);
+            print_u64(held[from + i]);
         }
     }
 }
 
 // The first `length` letters of a buffer that has n.
-pub fn print_trace(length: u16, trace: [u8; PLACES], n: usize) {
+pub fn print_trace(length: u16, held: [u64; ALL], n: usize) {
     if (length as usize) <= n {
-        print_u8s(b", trace", trace, length as usize);
+        print_part(b", trace", held, TRACE, length as usize);
     } else {
         print_number(b", trace longer than its buffer: ", length as u64);
     }
@@ -109,10 +86,8 @@ pub fn print_found(found: Found) -> u16 {
     }
 }
 
-pub fn print_sizes(a: usize, b: usize, c: usize, d: usize, t: usize) {
+pub fn print_sizes(a: usize, d: usize, t: usize) {
     print_u64(a as u64);
-    print_u64(b as u64);
-    print_u64(c as u64);
     print_u64(d as u64);
     print_u64(t as u64);
     print(b": ");

@@ -19,13 +19,10 @@ slice-aggregate-search-3 c = sym (length-take-le _ _ (omega arith))
 slice-aggregate-search-4 : tie.Need-slice-aggregate-search-4
 slice-aggregate-search-4 c = sym (length-take-le _ _ (omega arith))
 
-slice-aggregate-search-5 : tie.Need-slice-aggregate-search-5
-slice-aggregate-search-5 c = sym (length-take-le _ _ (omega arith))
-
 pub search-lent-spec : {M : Type 1} → statement M
 search-lent-spec =
     tie.close (tie.spec (λ c κs. search needs) (λ c κs. search needs) (λ c κs. search needs)
-    (λ c κs. search needs) (λ c κs. search needs) (λ c κs. search needs) (λ c. search needs)
+    (λ c κs. search needs) (λ c κs. search needs) (λ c. search needs)
     slice-aggregate-search (λ c. search needs) slice-aggregate-search-2 (λ c. search needs)
-    slice-aggregate-search-3 (λ c. search needs) slice-aggregate-search-4 (λ c. search needs)
-    slice-aggregate-search-5 (λ c κs. search needs) (λ c. search needs))
+    slice-aggregate-search-3 (λ c. search needs) slice-aggregate-search-4 (λ c κs. search needs)
+    (λ c. search needs))

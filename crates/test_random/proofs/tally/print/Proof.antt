@@ -9,7 +9,7 @@ abbrev Inv-loop : tie.InvT-loop
 Inv-loop t text numbers n₀ n = Unit {0}
 
 abbrev μ-loop : tie.MeasureT-loop
-μ-loop t text numbers n₀ n = 26 - n
+μ-loop t text numbers n₀ n = 28 - n
 
 pub print-spec : {M : Type 1} → statement M
 print-spec =
