@@ -2,8 +2,7 @@
 use Prim.Native.Nat.{ℕ}
 use mathlib.Core.List.{List}
 use lib.ListN.{length, replicate}
-use Rattle.scratch.specs.Room.{mostRoom}
-use Rattle.scratch.specs.inner.Index.{mostIndex}
+use Rattle.scratch.specs.Room.{mostRoom, mostIndex}
 use Rattle.verdict.specs.Buffer.{written}
 use Rattle.search.specs.Lent.{Lent, lentLists}
 
