@@ -18,8 +18,8 @@ use Rattle.traces.proofs.Judgement.{Within, judge-within}
 use Rattle.reader.specs.inner.File.{readAnswer}
 use Rattle.reader.proofs.Accepted.{Decided, taken, turned, read-decided}
 use Rattle.reader.proofs.Valid.{file-valid}
-use Rattle.scratch.specs.Room.{mostRoom}
-use Rattle.scratch.specs.inner.Same.{samePhases}
+use Rattle.lists.specs.Room.{mostRoom}
+use Rattle.search.specs.inner.Same.{samePhases}
 use Rattle.verdict.specs.declared.Found.the-variants.{Refused as FoundRefused}
 use Rattle.verdict.specs.declared.RowLists.{RowLists}
 use Rattle.verdict.specs.Found.{valuesOf, refusedFound, trappedFound}

@@ -2,7 +2,7 @@
 use Prim.Native.Nat.{ℕ}
 use mathlib.Core.List.{List}
 use lib.ListN.{length, replicate}
-use Rattle.scratch.specs.Room.{mostRoom, mostIndex}
+use Rattle.lists.specs.Room.{mostRoom, mostIndex}
 use Rattle.verdict.specs.Buffer.{written}
 use Rattle.search.specs.Lent.{Lent, lentLists}
 

@@ -16,8 +16,8 @@ use Rattle.traces.specs.inner.Judgement.Judgement.{tooMany, sound, trapped}
 use Rattle.traces.specs.inner.Judgement.RightJudgement.{tooMany-right, sound-right, trapped-right}
 use Rattle.traces.proofs.Judgement.{judge-right, judge-only}
 use Rattle.step.proofs.Systems.{table-lawful}
-use Rattle.scratch.specs.inner.Same.{samePhases}
-use Rattle.scratch.proofs.Same.{phases-decided}
+use Rattle.search.specs.inner.Same.{samePhases}
+use Rattle.search.proofs.Same.{phases-decided}
 use Rattle.verdict.specs.Found.{refusedFound, trappedFound}
 use Rattle.search.specs.Lent.{Lent, Searched, roomOf, systemOf, traced}
 use Rattle.search.specs.inner.Computed.{judged, searchAnswer}

@@ -36,7 +36,7 @@ use Rattle.reader.proofs.Only as ReadingOnly
 use Rattle.load.specs.Load.{loadOf, totalsOf, noTotals, longestRun, runAnswer}
 use Rattle.verdict.specs.declared.RowLists.{RowLists}
 use Rattle.verdict.specs.Found.{Verdict, valuesOf, soundFound, trappedFound}
-use Rattle.scratch.specs.Room.{zeros}
+use Rattle.lists.specs.Room.{zeros}
 use Rattle.search.specs.Lent.{Lent, Searched, roomOf, systemOf, traced}
 use Rattle.search.specs.inner.Computed.{searchAnswer}
 use Rattle.demands.specs.Watching.{recordAfter, eventsOver, CallValid}

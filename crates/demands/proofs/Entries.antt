@@ -23,9 +23,9 @@ use Rattle.traces.proofs.Explored.{entry-leads, entry-step, entry-order, entry-
 use Rattle.traces.proofs.Explored.{reached-entry, entries-closed}
 use Rattle.traces.proofs.LostNumbers.{losts-computed}
 use Rattle.traces.proofs.Scratch.{column-length, column-at, column-beyond}
-use Rattle.scratch.specs.inner.Same.{samePhases}
+use Rattle.search.specs.inner.Same.{samePhases}
 use Rattle.successors.specs.State.{packed}
-use Rattle.scratch.specs.Room.{zeros}
+use Rattle.lists.specs.Room.{zeros}
 use Rattle.verdict.proofs.Buffer.{written-length}
 use Rattle.search.specs.Lent.{Lent, Searched, roomOf, systemOf}
 use Rattle.search.specs.inner.Computed.{entriesWithin, searchAnswer}

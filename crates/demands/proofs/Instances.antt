@@ -26,8 +26,8 @@ use Rattle.step.specs.Events.{actionEvents, delayEvents, triggerEvents, startEv
 use Rattle.step.specs.Events.{tickEvents}
 use Rattle.step.specs.inner.Firing.{firesAt}
 use Rattle.step.proofs.Systems.{table-lawful}
-use Rattle.scratch.specs.inner.Same.{kindOf, elapsed, samePhase, samePhases}
-use Rattle.scratch.proofs.Same.{phases-decided}
+use Rattle.search.specs.inner.Same.{kindOf, elapsed, samePhase, samePhases}
+use Rattle.search.proofs.Same.{phases-decided}
 use Rattle.reader.specs.Reading.{emptyTable}
 use Rattle.reader.proofs.Accepted.{accepted-file}
 use Rattle.reader.proofs.Valid.{file-valid}

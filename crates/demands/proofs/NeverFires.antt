@@ -23,8 +23,8 @@ use Rattle.step.specs.Tick.{tableSystem}
 use Rattle.step.specs.inner.Firing.{firesAt}
 use Rattle.step.proofs.Firing.{fires-exactly}
 use Rattle.step.proofs.Systems.{table-lawful}
-use Rattle.scratch.specs.inner.Same.{samePhases}
-use Rattle.scratch.proofs.Same.{phases-decided}
+use Rattle.search.specs.inner.Same.{samePhases}
+use Rattle.search.proofs.Same.{phases-decided}
 use Rattle.verdict.specs.declared.RowLists.{RowLists}
 use Rattle.search.specs.inner.Computed.{neverWithin}
 use Rattle.demands.specs.Searching.{RightLists}

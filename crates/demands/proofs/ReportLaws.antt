@@ -17,7 +17,7 @@ use Rattle.reader.specs.Reading.{refusedFile}
 use Rattle.reader.specs.Grammar.{IsFile}
 use Rattle.reader.proofs.Accepted.{file-accepted}
 use Rattle.reader.proofs.Valid.{file-valid}
-use Rattle.scratch.specs.Room.{mostRoom}
+use Rattle.lists.specs.Room.{mostRoom}
 use Rattle.verdict.specs.declared.Found.{Found}
 use Rattle.verdict.specs.declared.RowLists.{RowLists}
 use Rattle.verdict.specs.Found.{valuesOf, refusedFound}

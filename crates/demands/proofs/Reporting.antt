@@ -11,7 +11,7 @@ use Rattle.text.specs.Lines.{ended}
 use Rattle.reader.specs.Reading.{refusedFile}
 use Rattle.reader.specs.inner.File.{readAnswer}
 use Rattle.reader.specs.Grammar.{IsFile}
-use Rattle.scratch.specs.Room.{mostRoom}
+use Rattle.lists.specs.Room.{mostRoom}
 use Rattle.verdict.specs.declared.Found.{Found}
 use Rattle.verdict.specs.declared.RowLists.{RowLists}
 use Rattle.verdict.specs.Found.{Verdict, valuesOf}

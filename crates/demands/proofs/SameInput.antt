@@ -9,7 +9,7 @@ use lib.ListN.{length, take}
 use Rattle.table.specs.Valid.{tableValid, rowsOf}
 use Rattle.table.specs.declared.Table.{Table}
 use Rattle.traces.specs.inner.Verdicts.{Trapped, Sound}
-use Rattle.scratch.specs.Room.{zeros}
+use Rattle.lists.specs.Room.{zeros}
 use Rattle.verdict.specs.Found.{valuesOf, soundFound, trappedFound}
 use Rattle.verdict.proofs.Buffer.{written-front}
 use Rattle.search.specs.Lent.{Lent, Searched, roomOf, systemOf, cleared, traced}

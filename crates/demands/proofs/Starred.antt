@@ -33,11 +33,11 @@ use Rattle.step.specs.Events.{tickEvents}
 use Rattle.step.specs.inner.Firing.{firesAt}
 use Rattle.step.specs.Tick.{tick, tableSystem}
 use Rattle.step.proofs.Systems.{table-lawful}
-use Rattle.scratch.specs.inner.Same.{kindOf, elapsed, samePhase, samePhases}
+use Rattle.search.specs.inner.Same.{kindOf, elapsed, samePhase, samePhases}
 use Rattle.verdict.specs.Found.{trappedFound}
 use Rattle.search.specs.Lent.{Lent, roomOf, systemOf, traced}
 use Rattle.search.specs.inner.Computed.{neverWithin, judged, searchAnswer}
-use Rattle.scratch.proofs.Same.{phases-decided}
+use Rattle.search.proofs.Same.{phases-decided}
 use Rattle.demands.specs.examples.Cases.{P, Case, CaseMeans, trappedWith, isRight, starred}
 use Rattle.demands.specs.examples.Cases.{report, delayed, EventCaseMeans, eventCases}
 use Rattle.demands.specs.examples.Cases.{noRows, ListCaseMeans, listCases, pressedCase}

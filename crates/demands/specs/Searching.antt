@@ -19,7 +19,7 @@ use Rattle.step.specs.declared.Phase.{Phase}
 use Rattle.step.specs.Tick.{startPhases}
 use Rattle.step.specs.Fires.{Fires}
 use Rattle.successors.specs.State.{packed}
-use Rattle.scratch.specs.Room.{zeros}
+use Rattle.lists.specs.Room.{zeros}
 use Rattle.verdict.specs.declared.RowLists.{RowLists}
 use Rattle.verdict.specs.Found.{Values, valuesOf, refusedFound, soundFound, trappedFound}
 use Rattle.search.specs.Lent.{Lent, Searched, roomOf, systemOf, cleared, traced}

@@ -1,2 +1,3 @@
--- Lists of numbers. Nothing here has to be believed.
+-- Lists of numbers: how much room the lent scratch has, and the longest index that is of use.
+pub mod Room
 pub mod inner

@@ -25,15 +25,20 @@ startPhases rows = map (λ _. Waiting) rows
 abbrev pub someBroken : List Phase → Bool
 someBroken phases = some isBroken phases
 
--- The rows of a table with s signals, as a system: its states are the phases of all rows.
-abbrev pub tableSystem : ℕ → List Row → System
-tableSystem s rows = record {
+-- The rows of a table with s signals, as a system from some phases on: its states are the phases of
+-- all rows.
+abbrev pub systemFrom : ℕ → List Row → List Phase → System
+systemFrom s rows start = record {
   State = List Phase;
   letters = letters s;
-  start = startPhases rows;
+  start = start;
   step = λ phases letter. tick rows letter phases;
   broken = someBroken;
 }
+
+-- From the start.
+abbrev pub tableSystem : ℕ → List Row → System
+tableSystem s rows = systemFrom s rows (startPhases rows)
 
 -- A row by itself, as a system: its states are its phases.
 abbrev pub rowSystem : ℕ → Row → System

@@ -5,6 +5,8 @@ pub mod Numbers
 pub mod Explore
 pub mod Least
 pub mod Entries
+pub mod Keyed
+pub mod NoPlace
 pub mod Passing
 pub mod Judgement
 pub mod Lists

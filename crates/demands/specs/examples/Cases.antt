@@ -20,7 +20,7 @@ use Rattle.step.specs.Phase.{codeOf}
 use Rattle.step.specs.Step.{stepRow}
 use Rattle.step.specs.Events.{eventsOf, rowEvents}
 use Rattle.step.specs.Tick.{rowSystem, tableSystem}
-use Rattle.scratch.specs.inner.Same.{samePhases}
+use Rattle.search.specs.inner.Same.{samePhases}
 use Rattle.verdict.specs.declared.RowLists.{RowLists}
 use Rattle.verdict.specs.Found.{trappedFound}
 use Rattle.search.specs.Lent.{Lent, roomOf, traced}

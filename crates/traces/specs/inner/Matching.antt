@@ -1,5 +1,6 @@
--- Two systems whose states correspond one to one.
+-- Two systems whose states correspond, those that are not broken one to one.
 use Prim.Native.Nat.{ℕ, _<_}
+use mathlib.Core.Bool.{false}
 use mathlib.Core.Path.{_≡_}
 use Rattle.traces.specs.System.{System}
 use Rattle.traces.specs.inner.Entries.{Entries}
@@ -10,8 +11,8 @@ pub record Matching (X Y : System) (R : X .State → Y .State → Type 0) : Type
   pub steps : (s : X .State) (t : Y .State) (l : ℕ) → l < X .letters → R s t
       → R (X .step s l) (Y .step t l)
   pub broken : (s : X .State) (t : Y .State) → R s t → X .broken s ≡ Y .broken t
-  pub one-left : (s s′ : X .State) (t : Y .State) → R s t → R s′ t → s ≡ s′
-  pub one-right : (s : X .State) (t t′ : Y .State) → R s t → R s t′ → t ≡ t′
+  pub one-left : (s s′ : X .State) (t : Y .State) → Y .broken t ≡ false → R s t → R s′ t → s ≡ s′
+  pub one-right : (s : X .State) (t t′ : Y .State) → X .broken s ≡ false → R s t → R s t′ → t ≡ t′
 
 -- Entry e is the same in both: related states, and the same predecessor and letter.
 pub record SameEntry (X Y : System) (R : X .State → Y .State → Type 0) (E : Entries X)
