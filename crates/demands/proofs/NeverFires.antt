@@ -1,16 +1,13 @@
 -- The rows that the search lists are those that never fire, and no list but one says so. Assumes
 -- nothing.
 use Prim.Native.Nat.{ℕ, _<_, _≤_, _^_}
-use native.Mathlib.Omega.{arith}
 use mathlib.Core.Bool.{Bool, true, false, not}
 use mathlib.Core.List.{List}
 use mathlib.Core.Logic.{_↔_}
-use mathlib.Core.Path.{_≡_, refl, sym, ap, _∙_}
+use mathlib.Core.Path.{_≡_, refl, ap}
 use borrow.Author.Tests.{not-true}
 use lib.ListN.{length}
-use Rattle.letters.specs.Letter.{bitAt}
-use Rattle.letters.proofs.Bits.{bits-below, bit-place}
-use Rattle.letters.proofs.Sets.{in-setOf, setOf-lt, set-ext}
+use Rattle.letters.proofs.Exactly.{isSet-low, isSet-only, setOf-is}
 use Rattle.table.specs.declared.Row.{Row}
 use Rattle.traces.specs.inner.Entries.{Entries}
 use Rattle.traces.specs.inner.Explore.{listed, explore}
@@ -29,31 +26,19 @@ use Rattle.verdict.specs.declared.RowLists.{RowLists}
 use Rattle.search.specs.inner.Computed.{neverWithin}
 use Rattle.demands.specs.Searching.{RightLists}
 
--- Two tests that hold together are the same.
-same-test : (a b : Bool) → (a ≡ true → b ≡ true) → (b ≡ true → a ≡ true) → a ≡ b
-same-test true b there back = sym (there refl)
-same-test false true there back = back refl
-same-test false false there back = refl
-
 module _ (s : ℕ) (rows : List Row) where
+  abbrev Never : ℕ → Type 0
+  Never i = Fires s rows i → ⊥
+
   -- No row beyond the table's is listed,
   pub lists-low : (lists : RowLists) → RightLists s rows lists → lists .never < 2 ^ length rows
-  lists-low lists right =
-      bits-below (lists .never) (length rows) (λ i far. go i far (bitAt (lists .never) i) refl)
-    where
-      go : (i : ℕ) → length rows ≤ i → (b : Bool) → bitAt (lists .never) i ≡ b
-          → bitAt (lists .never) i ≡ false
-      go i far true e = absurd (omega (arith, right .never i .0 e .0))
-      go i far false e = e
+  lists-low lists right = isSet-low (length rows) Never (lists .never) (right .never)
 
   -- so that what is right fixes the lists.
   pub lists-only : (one other : RowLists) → RightLists s rows one → RightLists s rows other
       → one ≡ other
-  lists-only one other p q =
-      ap (λ (n : ℕ). record { never = n })
-      (set-ext (length rows) (one .never) (other .never) (lists-low one p) (lists-low other q)
-      (λ i low. same-test (bitAt (one .never) i) (bitAt (other .never) i)
-      (λ e. q .never i .1 (p .never i .0 e)) (λ e. p .never i .1 (q .never i .0 e))))
+  lists-only one other p q = ap (λ (n : ℕ). record { never = n })
+      (isSet-only (length rows) Never (one .never) (other .never) (p .never) (q .never))
 
   module _ (room : ℕ) (few : length (explore (tableSystem s rows) samePhases room) ≤ room) where
     abbrev E : Entries (tableSystem s rows)
@@ -73,27 +58,18 @@ module _ (s : ℕ) (rows : List Row) where
           let fires = fires-exactly s rows i in
           (λ e. fires .1 (entries .0 e), λ f. entries .1 (fires .0 f))
 
-      listed-is : i < length rows → bitAt (neverWithin room s rows) i ≡ not passes
-      unfolding neverWithin
-      listed-is low = in-setOf (length rows) i _ low
-
-      listed-low : bitAt (neverWithin room s rows) i ≡ true → i < length rows
-      unfolding neverWithin
-      listed-low e = bit-place (neverWithin room s rows) (length rows) i
-          (setOf-lt (length rows) _) e
-
-      there : bitAt (neverWithin room s rows) i ≡ true
-          → (i < length rows) × (Fires s rows i → ⊥)
-      there e =
-          let low = listed-low e in
-          (low, λ f. not-both passes (bridge .1 f) (not-true _ (sym (listed-is low) ∙ e)))
-
-      back : (i < length rows) × (Fires s rows i → ⊥) → bitAt (neverWithin room s rows) i ≡ true
-      back (low, none) = listed-is low ∙ go passes refl
+      none : Never i → not passes ≡ true
+      none never = go passes refl
         where
           go : (b : Bool) → passes ≡ b → not b ≡ true
-          go true e = absurd (none (bridge .0 e))
+          go true e = absurd (never (bridge .0 e))
           go false e = refl
 
     pub never-right : RightLists s rows (record { never = neverWithin room s rows })
-    never-right = record { never = λ i. (there i, back i) }
+    unfolding neverWithin
+    never-right = record {
+      never = setOf-is (length rows) Never (λ i. not (passes i)) (λ i low. (
+        λ e f. not-both (passes i) (bridge i .1 f) (not-true _ e),
+        none i,
+      ));
+    }

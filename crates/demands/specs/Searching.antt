@@ -2,7 +2,7 @@
 use Prim.Native.Nat.{ℕ, suc, _≤_, _<_}
 use mathlib.Core.Bool.{true, false}
 use mathlib.Core.List.{List, [], _∷_, _++_}
-use mathlib.Core.Logic.{_⊎_, _↔_}
+use mathlib.Core.Logic.{_⊎_}
 use mathlib.Core.Path.{_≡_}
 use lib.ListN.{length, getD}
 use Rattle.table.specs.Valid.{tableValid, rowsOf}
@@ -13,8 +13,8 @@ use Rattle.traces.specs.Trace.{AllBelow, run, Unbroken, Reached}
 use Rattle.traces.specs.Order.{Earlier, NotAfter}
 use Rattle.traces.specs.Doomed.{Doomed, Lost}
 use Rattle.traces.specs.Count.{ReachedMany, ReachedCount}
-use Rattle.letters.specs.Letter.{bitAt}
 use Rattle.letters.specs.Lists.{ZeroFrom}
+use Rattle.letters.specs.Sets.{IsSet}
 use Rattle.step.specs.declared.Phase.{Phase}
 use Rattle.step.specs.Tick.{startPhases}
 use Rattle.step.specs.Fires.{Fires}
@@ -60,8 +60,7 @@ pub record Fit (table : Table) (lent : Lent) (n : ℕ) : Type 0 where
 -- Document 02, ask 2: "List, in file order, each row whose trigger is realised in no unbroken
 -- trace, and no other": bit i of the set is row i + 1.
 pub record RightLists (s : ℕ) (rows : List Row) (lists : RowLists) : Type 0 where
-  pub never : (i : ℕ) → (bitAt (lists .never) i ≡ true)
-      ↔ ((i < length rows) × (Fires s rows i → ⊥))
+  pub never : IsSet (length rows) (λ i. Fires s rows i → ⊥) (lists .never)
 
 -- Lent memory of the same size, whatever it holds.
 pub record SameLengths (one other : Lent) : Type 0 where

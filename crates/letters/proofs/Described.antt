@@ -4,7 +4,7 @@
 use Prim.Native.Nat.{ℕ, zero, suc, _+_, _<_, _≤_}
 use native.Mathlib.Decide.{ℕ-discrete}
 use native.Mathlib.Omega.{arith}
-use mathlib.Core.Bool.{Bool, true, false, _||_, cond, or-true, true≢false}
+use mathlib.Core.Bool.{Bool, true, false, cond, true≢false}
 use mathlib.Core.List.{List, [], _∷_, List·Memᴰ, List·Memᴰ·head, List·Memᴰ·tail}
 use mathlib.Core.List.{List·Memᴰ·not-nil, List·Memᴰ·cases-cons}
 use mathlib.Core.Logic.{_⊎_, inl, inr}
@@ -13,6 +13,7 @@ use lib.ListN.{length}
 use Rattle.letters.specs.Letter.{letters, inSet, members}
 use Rattle.letters.specs.Lists.{some}
 use Rattle.letters.specs.further.Described.{Rising, none, one, more, LettersOf}
+use Rattle.letters.proofs.Elements.{mem-length, some-if, some-none}
 
 -- Rising lists with the same elements are the same.
 rising-tail : (x : ℕ) (xs : List ℕ) → Rising (x ∷ xs) → Rising xs
@@ -57,28 +58,6 @@ rising-unique (x ∷ xs) (y ∷ ys) h g a b =
     ap₂ _∷_ same (rising-unique xs ys (rising-tail x xs h) (rising-tail y ys g)
     (within-tail x y xs ys same h a) (within-tail y x ys xs (sym same) g b))
 
--- An element makes a list longer than 0, and settles whether some element passes a test.
-mem-length : {A : Type 0} (x : A) (xs : List A) → List·Memᴰ x xs → 1 ≤ length xs
-mem-length x [] m = absurd (List·Memᴰ·not-nil m)
-mem-length x (y ∷ ys) m = omega arith
-
-module _ {A : Type 0} (test : A → Bool) where
-  some-if : (x : A) (xs : List A) → List·Memᴰ x xs → test x ≡ true → some test xs ≡ true
-  unfolding some
-  some-if x [] m e = absurd (List·Memᴰ·not-nil m)
-  some-if x (y ∷ ys) m e = go (List·Memᴰ·cases-cons m) (λ later. some-if x ys later e)
-    where
-      go : (x ≡ y) ⊎ List·Memᴰ x ys → (List·Memᴰ x ys → some test ys ≡ true)
-          → (test y || some test ys) ≡ true
-      go (inl same) ih = rw (← same, e)
-      go (inr later) ih = rw (ih later) (or-true (test y))
-
-  some-none : (xs : List A) → ((x : A) → List·Memᴰ x xs → test x ≡ false) → some test xs ≡ false
-  unfolding some
-  some-none [] no-one = refl
-  some-none (x ∷ xs) no-one =
-      rw (no-one x (List·Memᴰ·head refl)) (some-none xs (λ y m. no-one y (List·Memᴰ·tail m)))
-
 -- The members of the n letters from l on.
 module _ (set : ℕ) where
   members-above : (n l x : ℕ) → x < l → Rising (x ∷ members n l set)
@@ -93,7 +72,7 @@ module _ (set : ℕ) where
       go true here later = more low here
       go false here later = later
 
-  members-rising : (n l : ℕ) → Rising (members n l set)
+  pub members-rising : (n l : ℕ) → Rising (members n l set)
   unfolding members
   members-rising zero l = none
   members-rising (suc n) l =
@@ -110,7 +89,7 @@ module _ (set : ℕ) where
   member-later : (n l x : ℕ) → Member n (suc l) x → Member (suc n) l x
   member-later n l x is = (omega (arith, is .0), omega (arith, is .1), is .2)
 
-  members-in : (n l x : ℕ) → List·Memᴰ x (members n l set) → Member n l x
+  pub members-in : (n l x : ℕ) → List·Memᴰ x (members n l set) → Member n l x
   unfolding members
   members-in zero l x m = absurd (List·Memᴰ·not-nil m)
   members-in (suc n) l x m =
@@ -127,7 +106,7 @@ module _ (set : ℕ) where
       go true e m later = first e (List·Memᴰ·cases-cons m) later
       go false e m later = later m
 
-  in-members : (n l x : ℕ) → l ≤ x → x < l + n → inSet set x ≡ true
+  pub in-members : (n l x : ℕ) → l ≤ x → x < l + n → inSet set x ≡ true
       → List·Memᴰ x (members n l set)
   unfolding members
   in-members zero l x low high h = absurd (omega arith)
@@ -145,7 +124,7 @@ module _ (set : ℕ) where
       go false e (no other) ih = ih other
 
   -- How many they are.
-  members-le : (n l : ℕ) → length (members n l set) ≤ n
+  pub members-le : (n l : ℕ) → length (members n l set) ≤ n
   unfolding members
   members-le zero l = omega arith
   members-le (suc n) l = go (inSet set l) (members-le n (suc l))

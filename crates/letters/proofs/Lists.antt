@@ -9,7 +9,7 @@ use mathlib.Core.List.{List, [], _∷_, _++_}
 use mathlib.Core.Logic.{_⊎_, inl, inr}
 use mathlib.Core.Path.{_≡_, refl, sym}
 use lib.Dec.{eqb, leb, ltb}
-use lib.ListN.{length, getD, take, drop, length-take, drop-of-length-le}
+use lib.ListN.{length, getD, take, drop, replicate, length-take, drop-of-length-le}
 use lib.Seq.{drop-cons, getD-take}
 use Rattle.letters.specs.Lists.{within, every, some, sameBytes}
 
@@ -89,6 +89,11 @@ module _ {A : Type 0} (test : A → Bool) where
   every-append [] ys = refl
   every-append (x ∷ xs) ys = rw (every-append xs ys)
       (sym (and-assoc (test x) (every test xs) (every test ys)))
+
+  pub every-replicate : (x : A) → test x ≡ true → (k : ℕ) → every test (replicate k x) ≡ true
+  unfolding every
+  every-replicate x e zero = refl
+  every-replicate x e (suc k) = rw e (every-replicate x e k)
 
 -- A loop's turn at element i: `-next` where it goes on, `-stop` where it settles the answer.
 module _ {A : Type 0} (test : A → Bool) (xs : List A) (i : ℕ) (d : A) (h : i < length xs) where

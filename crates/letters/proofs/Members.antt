@@ -20,11 +20,11 @@ use Rattle.letters.proofs.Sets.{set-ext, in-setOf, setOf-lt, setOf-true
 
 -- At letter l, which is in the set or not.
 module _ (set n l : ℕ) where
-  members-here : inSet set l ≡ true → members (suc n) l set ≡ l ∷ members n (suc l) set
+  pub members-here : inSet set l ≡ true → members (suc n) l set ≡ l ∷ members n (suc l) set
   unfolding members
   members-here e = rw e
 
-  members-past : inSet set l ≡ false → members (suc n) l set ≡ members n (suc l) set
+  pub members-past : inSet set l ≡ false → members (suc n) l set ≡ members n (suc l) set
   unfolding members
   members-past e = rw e
 
@@ -49,10 +49,10 @@ module _ (set width letter : ℕ) where
 
 -- What holds of n + 1 letters from l on holds of l, and of the n after it.
 module _ (P : ℕ → Type 0) (n l : ℕ) (all : (i : ℕ) → i < suc n → P (l + i)) where
-  of-first : P l
+  pub of-first : P l
   of-first = rw add-zero at (all 0 (omega arith))
 
-  of-others : (i : ℕ) → i < n → P (suc l + i)
+  pub of-others : (i : ℕ) → i < n → P (suc l + i)
   of-others i low =
       let place : suc l + i ≡ l + suc i = omega arith in rw place (all (suc i) (omega arith))
 

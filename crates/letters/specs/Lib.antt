@@ -2,5 +2,6 @@
 -- the definitions above them use.
 pub mod Lists
 pub mod Letter
+pub mod Sets
 pub mod inner
 pub mod further

@@ -4,6 +4,7 @@ pub mod Codes
 pub mod States
 pub mod Rows
 pub mod Systems
+pub mod Among
 pub mod Pressed
 pub mod RowEvents
 pub mod Marks

@@ -1,20 +1,21 @@
 -- Laws of names and of table values. A loop's turn at place i: `-next` where it goes on, `-stop`
 -- where it settles the answer, `-end` past the last place. Assumes nothing.
-use Prim.Native.Nat.{ℕ, suc, _+_, _<_, _≤_}
+use Prim.Native.Nat.{ℕ, suc, _+_, _-_, _<_, _≤_}
 use native.Mathlib.Numerals.{add-one}
 use native.Mathlib.Omega.{arith}
 use mathlib.Core.Bool.{Bool, true, false, _&&_, not, cond}
 use mathlib.Core.List.{List, [], _∷_}
-use mathlib.Core.Path.{_≡_}
-use lib.ListN.{length, getD, take, drop, drop-of-length-le}
-use lib.Seq.{drop-cons, getD-take}
+use mathlib.Core.Path.{_≡_, refl}
+use lib.ListN.{length, getD, take, drop, replicate, drop-of-length-le}
+use lib.Seq.{drop-cons, getD-take, take-at, drop-at}
 use Rattle.letters.specs.Letter.{setValid}
 use Rattle.letters.specs.Lists.{within, every, some}
 use Rattle.letters.proofs.Lists.{and-left, and-right, and-four, lt-length-take, within-bounds}
+use Rattle.letters.proofs.Lists.{within-true, every-replicate}
 use Rattle.table.specs.Limits.{mostRows, mostSignals, mostTicks}
-use Rattle.table.specs.Row.{boundsValid, rowValid, rowUnused}
+use Rattle.table.specs.Row.{boundsValid, rowValid, rowUnused, zeroRow}
 use Rattle.table.specs.Name.{isLowercase, nameRun, sameName, allDistinct}
-use Rattle.table.specs.Valid.{rowsValid, namesValid, rowsOf, tableValid}
+use Rattle.table.specs.Valid.{rowsValid, namesValid, rowsOf, tableFrom, tableValid}
 use Rattle.table.specs.declared.Name.{Name}
 use Rattle.table.specs.declared.Row.{Row}
 use Rattle.table.specs.declared.Table.{Table}
@@ -139,3 +140,27 @@ module _ (t : Table) (fits : tableValid t ≡ true) where
 
   pub tableValid-unused : every rowUnused (drop (t .count) (t .rows)) ≡ true
   tableValid-unused = tableValid-parts .3
+
+pub zero-unused : rowUnused zeroRow ≡ true
+unfolding rowUnused every
+zero-unused = refl
+
+-- The table value of some rows: they are its rows, and number 17 lets it by where it lets by the
+-- rows and the names.
+module _ (s : ℕ) (names : List Name) (rows : List Row) where
+  pub tableFrom-rows : rowsOf (tableFrom s names rows) ≡ rows
+  tableFrom-rows = take-at rows _ (length rows) refl
+
+  pub tableFrom-valid : rowsValid s rows ≡ true → namesValid s names ≡ true
+      → tableValid (tableFrom s names rows) ≡ true
+  unfolding tableValid
+  tableFrom-valid fits named =
+      let many = rowsValid-count s rows fits in
+      rw (
+        within-true 1 mostRows (length rows) (many .0) (many .1),
+        tableFrom-rows,
+        fits,
+        named,
+        drop-at rows (replicate (mostRows - length rows) zeroRow) (length rows) refl,
+      )
+      (every-replicate rowUnused zeroRow zero-unused (mostRows - length rows))

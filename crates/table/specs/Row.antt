@@ -1,12 +1,12 @@
 -- A row: six conditions, kept as sets of letters, and six bounds.
 use Prim.Native.Nat.{ℕ}
 use mathlib.Core.Bool.{Bool, _&&_}
-use mathlib.Core.List.{[]}
+use mathlib.Core.List.{List, []}
 use lib.Dec.{eqb}
-use lib.ListN.{getD}
+use lib.ListN.{getD, replicate}
 use Rattle.letters.specs.Letter.{inSet, setValid}
 use Rattle.letters.specs.Lists.{within, every}
-use Rattle.table.specs.Limits.{mostTicks}
+use Rattle.table.specs.Limits.{mostTicks, conditions}
 use Rattle.table.specs.declared.Row.{Row}
 
 -- The places of the conditions, in the order of the fields "TSE, TC, TEE, .., ASE, AC, AEE".
@@ -50,6 +50,12 @@ unfoldable pub rowUnused : Row → Bool
 rowUnused row =
     isZero (row .tmin) && isZero (row .tmax) && isZero (row .lmin) && isZero (row .lmax)
     && isZero (row .amin) && isZero (row .amax) && every isZero (row .sets)
+
+-- Such a row: its six sets and its bounds are 0.
+abbrev pub zeroRow : Row
+zeroRow =
+    let none : List ℕ = replicate conditions 0 in
+    record { sets = none; tmin = 0; tmax = 0; lmin = 0; lmax = 0; amin = 0; amax = 0 }
 
 -- What stands past the end of a list of rows.
 abbrev pub noRow : Row

@@ -1,11 +1,11 @@
 -- Number 17.
-use Prim.Native.Nat.{ℕ}
+use Prim.Native.Nat.{ℕ, _-_}
 use mathlib.Core.Bool.{Bool, _&&_}
-use mathlib.Core.List.{List}
-use lib.ListN.{length, take, drop}
+use mathlib.Core.List.{List, _++_}
+use lib.ListN.{length, take, drop, replicate}
 use Rattle.letters.specs.Lists.{within, every}
 use Rattle.table.specs.Limits.{mostSignals, mostRows}
-use Rattle.table.specs.Row.{rowValid, rowUnused}
+use Rattle.table.specs.Row.{rowValid, rowUnused, zeroRow}
 use Rattle.table.specs.Name.{nameValid, nameUnused, allDistinct}
 use Rattle.table.specs.declared.Row.{Row}
 use Rattle.table.specs.declared.Name.{Name}
@@ -25,6 +25,15 @@ namesValid s names =
 -- The rows of a table value, in file order.
 abbrev pub rowsOf : Table → List Row
 rowsOf table = take (table .count) (table .rows)
+
+-- The table value of some signals, with their names, and of some rows.
+abbrev pub tableFrom : ℕ → List Name → List Row → Table
+tableFrom signals names rows = record {
+  signals = signals;
+  names = names;
+  count = length rows;
+  rows = rows ++ replicate (mostRows - length rows) zeroRow;
+}
 
 -- "A table value with a signal count, names, row count or bounds that no accepted file has, an
 -- unused place that is not 0, or a set with a letter from 2^s on" is turned down; any other is let

@@ -1,10 +1,35 @@
--- Two systems whose states correspond, those that are not broken one to one.
+-- Two systems compared: by what their traces do, and by states that correspond.
 use Prim.Native.Nat.{ℕ, _<_}
-use mathlib.Core.Bool.{false}
+use mathlib.Core.Bool.{true, false}
+use mathlib.Core.List.{List}
 use mathlib.Core.Path.{_≡_}
 use Rattle.traces.specs.System.{System}
+use Rattle.traces.specs.Trace.{run}
 use Rattle.traces.specs.inner.Entries.{Entries}
 
+-- Each trace that breaks X breaks Y.
+pub record Laxer (X Y : System) : Type 0 where
+  pub letters : X .letters ≡ Y .letters
+  pub breaks : (w : List ℕ) → X .broken (run X (X .start) w) ≡ true
+      → Y .broken (run Y (Y .start) w) ≡ true
+
+-- A trace breaks both or neither, and traces that lead to one state of the one lead to one state of
+-- the other.
+pub record SameTraces (X Y : System) : Type 0 where
+  pub there : Laxer X Y
+  pub back : Laxer Y X
+  pub leads : (w v : List ℕ) → run X (X .start) w ≡ run X (X .start) v
+      → run Y (Y .start) w ≡ run Y (Y .start) v
+  pub led : (w v : List ℕ) → run Y (Y .start) w ≡ run Y (Y .start) v
+      → run X (X .start) w ≡ run X (X .start) v
+
+-- One trace leads to both states.
+pub record OneTrace (X Y : System) (s : X .State) (t : Y .State) : Type 0 where
+  pub trace : List ℕ
+  pub here : run X (X .start) trace ≡ s
+  pub there : run Y (Y .start) trace ≡ t
+
+-- States that are related correspond, those that are not broken one to one.
 pub record Matching (X Y : System) (R : X .State → Y .State → Type 0) : Type 0 where
   pub letters : X .letters ≡ Y .letters
   pub starts : R (X .start) (Y .start)

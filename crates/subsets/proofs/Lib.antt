@@ -1,0 +1,3 @@
+-- `Gathering` serves the function's proof; `Laws`: some rows of a table.
+pub mod Gathering
+pub mod Laws

@@ -1,0 +1,2 @@
+-- Some rows of a table, as a table of their own.
+pub mod Subtable
