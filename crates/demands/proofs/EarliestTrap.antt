@@ -1,19 +1,18 @@
 -- "The earliest doomed entry's trace": the trace into the trap is that of the first entry that has
--- a lost number, and it has fewer letters than there are entries. Assumes nothing.
-use Prim.Native.Nat.{ℕ, zero, suc, _≤_, _<_}
+-- a lost number. Assumes nothing.
+use Prim.Native.Nat.{ℕ, _<_}
 use native.Mathlib.Decide.{ℕ-discrete}
 use native.Mathlib.Omega.{arith}
-use mathlib.Core.List.{List, [], _∷_}
+use mathlib.Core.List.{List}
 use mathlib.Core.Logic._⊎_.{inl, inr}
-use mathlib.Core.Path.{_≡_, refl, sym, ap}
-use lib.ListN.{length, getD, length-append}
+use mathlib.Core.Path.{_≡_, refl, sym}
+use lib.ListN.{getD}
 use Rattle.table.specs.declared.Table.{Table}
 use Rattle.traces.specs.System.{System}
 use Rattle.traces.specs.Trace.{run, Reached}
 use Rattle.traces.specs.Order.{Earlier, NotAfter}
 use Rattle.traces.specs.Doomed.{Doomed}
 use Rattle.traces.specs.inner.Verdicts.{Trapped}
-use Rattle.traces.proofs.Numbers.{strong-induction}
 use Rattle.traces.proofs.Order.{earlier-irrefl, earlier-trans, not-after-antisym}
 use Rattle.traces.proofs.Doomed.{lost-doomed, lost-unique}
 use Rattle.search.specs.Lent.{Lent, systemOf}
@@ -76,26 +75,3 @@ module _ (table : Table) (n : ℕ) (lent : Lent) (held : ScratchHeld table n len
               (trap .earliest (held .trace e) (held .entry e (omega (arith, r .1)) .fine)
               (lost-doomed-at e (omega (arith, r .1)) (omega arith)))
               (rw is at (held .order e (r .0) h (r .1))))
-
-  -- An entry's trace has no more letters than there are entries before it, so the trace shown has
-  -- fewer letters than there are states.
-  trace-short : (e : ℕ) → e < n → length (held .trace e) ≤ e
-  trace-short = strong-induction (λ e. e < n → length (held .trace e) ≤ e) go
-    where
-      go : (e : ℕ) → ((d : ℕ) → d < e → d < n → length (held .trace d) ≤ d) → e < n
-          → length (held .trace e) ≤ e
-      go zero ih h = omega (arith, ap length (held .entry 0 h .first refl .0))
-      go (suc e) ih h =
-          let later = held .entry (suc e) h .later (omega arith) in
-          omega (
-            arith,
-            later .2,
-            ih (later .0) (later .2) (omega (arith, later .2)),
-            ap length (later .3),
-            length-append (held .trace (later .0)) (later .1 ∷ []),
-          )
-
-  pub trace-low : length w < n
-  trace-low =
-      let d = earliest-doomed in
-      omega (arith, trace-short (d .entry) (d .low), d .low, ap length (d .leads))

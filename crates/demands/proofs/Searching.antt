@@ -32,6 +32,7 @@ use Rattle.demands.proofs.Answers.{answer-is}
 use Rattle.demands.proofs.VerdictMeaning as Meaning
 use Rattle.demands.proofs.SearchLaws as Laws
 use Rattle.demands.proofs.Entries as Entries
+use Rattle.search.proofs.Bound as Bound
 use Rattle.demands.proofs.EarliestTrap as EarliestTrap
 use Rattle.demands.proofs.StateNumbers as Numbers
 use Rattle.demands.proofs.ScratchLaws as ScratchLaws
@@ -170,8 +171,7 @@ module _ (table : Table) (lent : Lent) (n : ℕ) (fit : Fit table lent n) where
 
     -- A buffer as long as the room holds every trace that is shown.
     pub trace-low : length w < n
-    trace-low =
-        EarliestTrap.trace-low table n (searchAnswer table lent .lent) scratch-held w k trapped
+    trace-low = Bound.trace-low table (fit .count) trapped
 
     -- "A trapped table is refused instead exactly when that trace is longer than its buffer."
     pub refused-21 : length (lent .trace) < length w
