@@ -5,14 +5,14 @@ use crate::rows::ALWAYS;
 use crate::rows::C;
 use crate::rows::NEVER;
 use crate::ways::Tally;
+use lending::MOST_LENT;
 use libc::STDOUT_FILENO;
+use pass::Slot;
+use pass::Watch;
 use table::MOST_ROWS;
 use table::MOST_TICKS;
 use table::Row;
 use table::Table;
-use watcher::MOST_LENT;
-use watcher::Slot;
-use watcher::Watch;
 
 const NOT_A: u64 = 5;
 

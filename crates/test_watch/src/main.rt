@@ -11,6 +11,8 @@ mod show;
 mod ways;
 
 use libc::STDOUT_FILENO;
+use pass::Slot;
+use pass::Watch;
 use rows::one_row;
 use rows::one_signal;
 use rows::row_brief;
@@ -24,8 +26,6 @@ use step::Phase;
 use table::Name;
 use table::Table;
 use watcher::Played;
-use watcher::Slot;
-use watcher::Watch;
 use ways::Tally;
 ghost use Prim.Native.Nat.{_≤_};
 
