@@ -73,7 +73,7 @@ fn rest_waiting(watch: Watch, n: usize) -> bool
     while i < MOST_ROWS {
         let slot = watch.slots[i];
         let phase = slot.phase;
-        if !step::is_waiting(phase) {
+        if !phases::is_waiting(phase) {
             return false;
         }
         i += 1;
@@ -117,7 +117,7 @@ pub fn take_row(pass: Pass, i: usize, row: Row) -> Pass
         signals: pass.signals,
         letter: pass.letter,
         rules: pass.rules & table::rows::row_valid(pass.signals, row),
-        phases: pass.phases & step::phase_valid(row, phase),
+        phases: pass.phases & phases::phase_valid(row, phase),
         watch: moved,
         events,
     }

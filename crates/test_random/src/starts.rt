@@ -68,7 +68,7 @@ pub fn watch_of(codes: [u8; MOST_ROWS]) -> Watch {
         slots: [waiting; MOST_ROWS],
     };
     for i in 0..MOST_ROWS {
-        let phase = step::phase_of(codes[i]);
+        let phase = phases::phase_of(codes[i]);
         watch.slots[i] = Slot { phase };
     }
     watch

@@ -96,7 +96,7 @@ fn eight_rows() -> Table {
 
 fn slot(code: u8) -> Slot {
     Slot {
-        phase: step::phase_of(code),
+        phase: phases::phase_of(code),
     }
 }
 

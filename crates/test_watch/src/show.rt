@@ -31,7 +31,7 @@ pub(crate) fn print_codes(watch: Watch) {
         let slot = watch.slots[i];
         let phase = slot.phase;
         io::write_all(STDOUT_FILENO, space);
-        io::print_decimal(STDOUT_FILENO, step::code(phase) as u64);
+        io::print_decimal(STDOUT_FILENO, phases::code(phase) as u64);
     }
 }
 

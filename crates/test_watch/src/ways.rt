@@ -53,7 +53,7 @@ fn same_codes(one: Watch, other: Watch) -> bool {
         let phase = slot.phase;
         let fellow = other.slots[i];
         let second = fellow.phase;
-        if step::code(phase) != step::code(second) {
+        if phases::code(phase) != phases::code(second) {
             return false;
         }
     }

@@ -1,8 +1,8 @@
--- `step::code` meets its contract, phase by phase. Assumes nothing.
+-- `phases::code` meets its contract, phase by phase. Assumes nothing.
 use Rattle.step.specs.Phase.{codeOf}
 use borrow.Author.Needs.{needs}
-use Rattle.step.proofs.code.Statement.{statement}
-use Rattle.step.proofs.code.Tie as tie
+use Rattle.phases.proofs.code.Statement.{statement}
+use Rattle.phases.proofs.code.Tie as tie
 
 returns : tie.Need-returns
 unfolding codeOf

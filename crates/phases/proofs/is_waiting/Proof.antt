@@ -1,8 +1,8 @@
--- `step::is_waiting` meets its contract, phase by phase. Assumes nothing.
+-- `phases::is_waiting` meets its contract, phase by phase. Assumes nothing.
 use Rattle.step.specs.Valid.{isWaiting}
 use borrow.Author.Needs.{needs}
-use Rattle.step.proofs.is_waiting.Statement.{statement}
-use Rattle.step.proofs.is_waiting.Tie as tie
+use Rattle.phases.proofs.is_waiting.Statement.{statement}
+use Rattle.phases.proofs.is_waiting.Tie as tie
 
 returns : tie.Need-returns
 unfolding isWaiting

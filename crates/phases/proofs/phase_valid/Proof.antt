@@ -1,8 +1,8 @@
--- `step::phase_valid` meets its contract, phase by phase. Assumes nothing.
+-- `phases::phase_valid` meets its contract, phase by phase. Assumes nothing.
 use Rattle.step.specs.Valid.{phaseValid}
 use borrow.Author.Needs.{needs}
-use Rattle.step.proofs.phase_valid.Statement.{statement}
-use Rattle.step.proofs.phase_valid.Tie as tie
+use Rattle.phases.proofs.phase_valid.Statement.{statement}
+use Rattle.phases.proofs.phase_valid.Tie as tie
 
 returns : tie.Need-returns
 unfolding phaseValid
