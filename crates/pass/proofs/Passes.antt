@@ -4,18 +4,19 @@ use Prim.Native.Nat.{ℕ, _+_, _<_, _≤_}
 use native.Mathlib.Decide.{decLe}
 use native.Mathlib.Numerals.{add-one}
 use native.Mathlib.Omega.{arith}
-use mathlib.Core.Bool.{Bool, true, false, _&&_, cond, and-assoc, and-comm, and-true, and-false}
+use mathlib.Core.Bool.{Bool, true, false, _&&_, cond, and-assoc, and-comm, and-true}
 use mathlib.Core.List.{List, [], _∷_, _++_, map}
 use mathlib.Core.Path.{_≡_, refl, sym, ap, ap₂, _∙_}
-use borrow.Author.Tests.{lt-ltb, le-ltb, lt-leb}
+use borrow.Author.Tests.{lt-ltb, le-ltb}
 use lib.Dec.{ltb}
 use lib.ListN.{length, getD, set, take, drop, replicate, length-append, drop-of-length-le}
 use lib.Seq.{set-at, getD-at, append-snoc, drop-cons}
 use Rattle.letters.specs.Letter.{letterValid}
-use Rattle.letters.specs.Lists.{within, every}
-use Rattle.table.specs.Limits.{mostSignals, mostRows}
+use Rattle.letters.specs.Lists.{every}
+use Rattle.table.specs.Limits.{mostRows}
 use Rattle.table.specs.Row.{rowValid, noRow}
 use Rattle.table.specs.Valid.{rowsValid}
+use Rattle.table.proofs.Laws.{counts-many}
 use Rattle.table.specs.declared.Row.{Row}
 use Rattle.table.specs.declared.Outcome.the-variants.{Accepted}
 use Rattle.step.specs.declared.Phase.{Phase}
@@ -237,8 +238,7 @@ module _ (s : ℕ) (rows : List Row) (watch : Watch) (letter : ℕ)
     many : mostRows < length rows → finished last watch ≡ tickAnswer s rows watch letter
     unfolding tickAnswer begun rowsValid
     many h =
-        let over : (within 1 mostSignals s && within 1 mostRows (length rows)) ≡ false =
-        simp (lt-leb (length rows) mostRows h, and-false) in
+        let over = counts-many s (length rows) h in
         finish-same last watch (passed last) false (last .phases)
         (letterValid (last .signals) (last .letter))
         (rules-down rows 0 (begun s (length rows) watch letter) over) refl refl refl

@@ -7,7 +7,6 @@
 use step::Events;
 use step::Phase;
 use table::MOST_ROWS;
-use table::MOST_SIGNALS;
 use table::Outcome;
 use table::Refusal;
 use table::Row;
@@ -88,8 +87,7 @@ pub fn begin(signals: u8, n: usize, watch: Watch, letter: u8) -> Pass
     Pass {
         signals,
         letter,
-        rules: letters::within(1, MOST_SIGNALS, signals as usize)
-            & letters::within(1, MOST_ROWS, n),
+        rules: table::counts_allowed(signals, n),
         phases: rest_waiting(watch, n),
         watch,
         events: [step::no_events(); MOST_ROWS],

@@ -11,7 +11,6 @@ use lib.Pow.{pow-mono}
 use lib.Seq.{take-at, drop-at}
 use Rattle.letters.specs.Letter.{letters, width, setValid}
 use Rattle.letters.specs.Lists.{every}
-use Rattle.letters.proofs.Lists.{within-true}
 use Rattle.letters.proofs.Sets.{setOf-lt}
 use Rattle.table.specs.Limits.{mostSignals, mostRows, mostTicks}
 use Rattle.table.specs.Row.{rowValid, rowUnused}
@@ -20,6 +19,7 @@ use Rattle.table.specs.Valid.{rowsValid, namesValid, tableValid}
 use Rattle.table.specs.declared.Name.{Name}
 use Rattle.table.specs.declared.Row.{Row}
 use Rattle.table.specs.declared.Table.{Table}
+use Rattle.table.proofs.Laws.{counts-right}
 use Rattle.conditions.specs.Condition.{IsName, nameOf, holdsAt}
 use Rattle.conditions.proofs.Places.{nameOf-valid}
 use Rattle.header.specs.Header.{noName, namesFrom}
@@ -146,8 +146,8 @@ module _ (bytes : List ℕ) (t : Table) (f : IsFile bytes t) where
         f .table-is,
         take-at (f .rows) free many refl,
         drop-at (f .rows) free many refl,
-        within-true 1 mostRows many (f .rows-some) (f .rows-few),
-        within-true 1 mostSignals s (f .header .has-names .signals .some) (f .header .few),
+        counts-right s many (f .header .has-names .signals .some) (f .header .few) (f .rows-some)
+            (f .rows-few),
         rows-valid known s (f .rules) (f .rows) (f .rows-are),
         names-are-valid,
       )

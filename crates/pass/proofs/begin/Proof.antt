@@ -11,12 +11,10 @@ returns c =
     rw (
       c .no-events .ensures,
       waits .rest-waiting .ensures,
-      waits .before .within2 .ensures,
-      waits .before .before .within .ensures,
+      waits .before .counts-allowed .ensures,
     )
 
 pub begin-spec : {M : Type 1} → statement M
 begin-spec =
     tie.close (tie.spec
-    (λ c κs. search needs) (λ c κs. search needs) (λ c κs. search needs) (λ c κs. search needs)
-    returns)
+    (λ c κs. search needs) (λ c κs. search needs) (λ c κs. search needs) returns)

@@ -5,9 +5,10 @@ use mathlib.Core.List.{List, [], _∷_}
 use lib.Dec.{ltb}
 use lib.ListN.{getD, set, drop}
 use Rattle.letters.specs.Letter.{letterValid}
-use Rattle.letters.specs.Lists.{within, every}
-use Rattle.table.specs.Limits.{mostSignals, mostRows}
+use Rattle.letters.specs.Lists.{every}
+use Rattle.table.specs.Limits.{mostRows}
 use Rattle.table.specs.Row.{rowValid}
+use Rattle.table.specs.Valid.{countsAllowed}
 use Rattle.table.specs.declared.Row.{Row}
 use Rattle.step.specs.declared.Phase.{Phase}
 use Rattle.step.specs.declared.Phase.the-variants.{Waiting}
@@ -29,7 +30,7 @@ unfoldable pub begun : ℕ → ℕ → Watch → ℕ → Pass
 begun s n watch letter = record {
   signals = s;
   letter = letter;
-  rules = within 1 mostSignals s && within 1 mostRows n;
+  rules = countsAllowed s n;
   phases = every isWaiting (drop n (phasesOf watch));
   watch = watch;
   events = nothingHappened;
