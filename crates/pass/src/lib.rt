@@ -1,6 +1,6 @@
-// The watcher's state, what a tick says, and one pass over the rows of a table: what it has found so
-// far, by value. specs/Watch.antt and specs/Answer.antt say what is right, specs/inner/Pass.antt
-// follows this code.
+// The watcher's state, what a tick says, and one pass over the rows of a table: what it has found
+// so far, by value. specs/Watch.antt and specs/Answer.antt say what is right,
+// specs/inner/Pass.antt follows this code.
 //
 // A tick is one pass: each row is tested for number 17, its phase for number 18, and moved on. The
 // pass is a value, so that rows that are lent and rows of a table value go the same way.

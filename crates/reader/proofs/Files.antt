@@ -24,9 +24,10 @@ use Rattle.table.proofs.Laws.{rowsValid-rows, tableValid-rows, tableValid-names
 use Rattle.table.proofs.Laws.{tableValid-signals, tableValid-unused}
 use Rattle.text.specs.Lines.{ended, joined, count, LF, space, Free, All, none as all-none}
 use Rattle.text.specs.Lines.{and as all-and}
-use Rattle.text.specs.Words.{PNP, version1, signalsWord}
+use Rattle.text.specs.Words.{signalsWord}
+use Rattle.text.specs.declared.Version.the-variants.{First}
 use Rattle.conditions.specs.Condition.{nameOf, IsName}
-use Rattle.header.specs.Header.{noName, namesFrom, IsSignals}
+use Rattle.header.specs.Header.{versionLine, noName, namesFrom, IsSignals}
 use Rattle.header.proofs.Shapes.{signals-free}
 use Rattle.rows.proofs.Rules.{row-free}
 use Rattle.reader.specs.Reading.{zeroRow, tableFrom}
@@ -162,9 +163,6 @@ module _ (table : Table) (sized : Sized table) (fits : tableValid table ≡ true
       }
 
   -- Its names, and lines that are rows.
-  abbrev header : List ℕ
-  header = PNP ++ version1
-
   abbrev pub line2 : List ℕ
   line2 = joined space (signalsWord ∷ words)
 
@@ -175,17 +173,19 @@ module _ (table : Table) (sized : Sized table) (fits : tableValid table ≡ true
     named = words-are;
   }
 
-  rows-apart : {rules : List (List ℕ)} {rows : List Row} → AreRows words rules rows → Free LF rules
+  -- No version has other rows, so the file is of the first.
+  rows-apart : {rules : List (List ℕ)} {rows : List Row} → AreRows First words rules rows
+      → Free LF rules
   rows-apart none = all-none
   rows-apart (and {a} {b} h more) =
-      all-and (row-free (map nameOf words) (width (length words)) a b h) (rows-apart more)
+      all-and (row-free (map nameOf words) (width (length words)) First a b h) (rows-apart more)
 
-  module _ {rules : List (List ℕ)} {rows : List Row} (are : AreRows words rules rows)
+  module _ {rules : List (List ℕ)} {rows : List Row} (are : AreRows First words rules rows)
       (many : length rows ≡ table .count) where
     abbrev bytesOf : List ℕ
-    bytesOf = ended (header ∷ line2 ∷ rules)
+    bytesOf = ended (versionLine First ∷ line2 ∷ rules)
 
-    lines-are : length bytesOf ≤ mostBytes → AreLines bytesOf (header ∷ line2 ∷ rules)
+    lines-are : length bytesOf ≤ mostBytes → AreLines bytesOf (versionLine First ∷ line2 ∷ rules)
     unfolding count
     lines-are few = record {
       bytes-are = refl;
@@ -197,6 +197,7 @@ module _ (table : Table) (sized : Sized table) (fits : tableValid table ≡ true
     pub file-is : length bytesOf ≤ mostBytes
         → IsFile bytesOf (tableFrom (length words) (namesFrom words) rows)
     file-is few = record {
+      version = First;
       names = words;
       rules = rules;
       rows = rows;

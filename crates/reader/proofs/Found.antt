@@ -12,11 +12,12 @@ use Rattle.table.specs.Limits.{mostBytes, mostSignals, mostRows}
 use Rattle.table.specs.Name.{allDistinct}
 use Rattle.table.specs.declared.Row.{Row}
 use Rattle.text.specs.Lines.{LF}
-use Rattle.text.specs.Words.{PNP, version1}
+use Rattle.text.specs.declared.Version.{Version}
 use Rattle.text.specs.inner.Cut.{lines}
 use Rattle.text.proofs.Joins.{ended-lines, lines-free, lines-some}
 use Rattle.conditions.specs.Condition.{nameOf}
-use Rattle.header.proofs.Shapes.{Line1, first, other, misshapen, line1-found, Line2, signals}
+use Rattle.header.proofs.Shapes.{Line1, known, other, misshapen, line1-found, Line2, signals}
+use Rattle.header.specs.Header.{versionLine}
 use Rattle.header.proofs.Shapes.{misshapen as misshapen2, line2-found}
 use Rattle.header.proofs.SignalLaws.{length-none}
 use Rattle.rows.specs.Row.{RowFault}
@@ -29,24 +30,28 @@ use Rattle.reader.specs.declared.Reading.{Reading}
 use Rattle.reader.proofs.Only.{each-length, read-only}
 
 -- Lines, of which at most k may be rows: all are, or one is not, or there is one more.
-data RowsFound (names : List (List ℕ)) (k : ℕ) (rules : List (List ℕ)) : Type 0 where
-  all : (rows : List Row) → AreRows names rules rows → length rules ≤ k → RowsFound names k rules
+data RowsFound (version : Version) (names : List (List ℕ)) (k : ℕ) (rules : List (List ℕ))
+    : Type 0 where
+  all : (rows : List Row) → AreRows version names rules rows → length rules ≤ k
+      → RowsFound version names k rules
   one : (before : List (List ℕ)) (rows : List Row) (line : List ℕ) (rest : List (List ℕ))
-      (number : ℕ) → rules ≡ before ++ line ∷ rest → AreRows names before rows
-      → length before < k → RowFault (map nameOf names) (width (length names)) line number
-      → RowsFound names k rules
+      (number : ℕ) → rules ≡ before ++ line ∷ rest → AreRows version names before rows
+      → length before < k → RowFault (map nameOf names) (width (length names)) version line number
+      → RowsFound version names k rules
   over : (before : List (List ℕ)) (rows : List Row) (line : List ℕ) (rest : List (List ℕ))
-      → rules ≡ before ++ line ∷ rest → AreRows names before rows → length before ≡ k
-      → RowsFound names k rules
+      → rules ≡ before ++ line ∷ rest → AreRows version names before rows → length before ≡ k
+      → RowsFound version names k rules
 
-rows-found : (names : List (List ℕ)) (k : ℕ) (rules : List (List ℕ)) → RowsFound names k rules
-rows-found names k [] = all [] none (omega arith)
-rows-found names zero (line ∷ rest) = over [] [] line rest refl none refl
-rows-found names (suc k) (line ∷ rest) =
-    go (row-found (map nameOf names) (width (length names)) line) (rows-found names k rest)
+rows-found : (version : Version) (names : List (List ℕ)) (k : ℕ) (rules : List (List ℕ))
+    → RowsFound version names k rules
+rows-found version names k [] = all [] none (omega arith)
+rows-found version names zero (line ∷ rest) = over [] [] line rest refl none refl
+rows-found version names (suc k) (line ∷ rest) =
+    go (row-found (map nameOf names) (width (length names)) version line)
+    (rows-found version names k rest)
   where
-    go : RowFound (map nameOf names) (width (length names)) line → RowsFound names k rest
-        → RowsFound names (suc k) (line ∷ rest)
+    go : RowFound (map nameOf names) (width (length names)) version line
+        → RowsFound version names k rest → RowsFound version names (suc k) (line ∷ rest)
     go (aFault number f) later = one [] [] line rest number refl none (omega arith) f
     go (aRow row r) (all rows are few) = all (row ∷ rows) (and r are) (omega arith)
     go (aRow row r) (one before rows next more number e are low f) =
@@ -68,14 +73,17 @@ module _ (bytes : List ℕ) where
   abbrev SomeReading : Type 0
   SomeReading = (r : Reading) × RightReading bytes r
 
-  rules-found : (names rules : List (List ℕ)) → HasHeader bytes names rules → SomeReading
-  rules-found names [] b = (_, is16 b)
-  rules-found names (line ∷ rest) b = go (rows-found names mostRows (line ∷ rest))
+  rules-found : (version : Version) (names rules : List (List ℕ))
+      → HasHeader bytes version names rules → SomeReading
+  rules-found version names [] b = (_, is16 b)
+  rules-found version names (line ∷ rest) b =
+      go (rows-found version names mostRows (line ∷ rest))
     where
-      go : RowsFound names mostRows (line ∷ rest) → SomeReading
+      go : RowsFound version names mostRows (line ∷ rest) → SomeReading
       go (all rows are few) = (
         _,
         isTable (record {
+          version = version;
           names = names;
           rules = line ∷ rest;
           rows = rows;
@@ -87,28 +95,31 @@ module _ (bytes : List ℕ) where
         }),
       )
       go (one before rows fault more number e are low f) =
-          (_, isFault fault more (subst (HasHeader bytes names) e b) are low f)
+          (_, isFault fault more (subst (HasHeader bytes version names) e b) are low f)
       go (over before rows ninth more e are full) =
-          (_, is9 ninth more (subst (HasHeader bytes names) e b) are full)
+          (_, is9 ninth more (subst (HasHeader bytes version names) e b) are full)
 
-  signals-found : (names rest : List (List ℕ)) → HasNames bytes names rest → SomeReading
-  signals-found names rest n =
+  signals-found : (version : Version) (names rest : List (List ℕ))
+      → HasNames bytes version names rest → SomeReading
+  signals-found version names rest n =
       go (decLe (length names) mostSignals) (allDistinct (map nameOf names)) refl
     where
       go : Dec (length names ≤ mostSignals) → (t : Bool) → allDistinct (map nameOf names) ≡ t
           → SomeReading
       go (no many) t e = (_, is7 n (omega arith))
       go (yes few) false e = (_, is8 n few e)
-      go (yes few) true e = rules-found names rest (record { has-names = n; few = few; differ = e })
+      go (yes few) true e =
+          rules-found version names rest (record { has-names = n; few = few; differ = e })
 
-  body-found : (body : List (List ℕ)) → AreLines bytes ((PNP ++ version1) ∷ body) → SomeReading
-  body-found [] l = (_, is6missing l)
-  body-found (line ∷ rest) l = go (line2-found line)
+  body-found : (version : Version) (body : List (List ℕ))
+      → AreLines bytes (versionLine version ∷ body) → SomeReading
+  body-found version [] l = (_, is6missing version l)
+  body-found version (line ∷ rest) l = go (line2-found line)
     where
       go : Line2 line → SomeReading
-      go (misshapen2 h) = (_, is6 l h)
+      go (misshapen2 h) = (_, is6 version l h)
       go (signals names s) =
-          signals-found names rest (record { line2 = line; lines = l; signals = s })
+          signals-found version names rest (record { line2 = line; lines = l; signals = s })
 
   lines-found : (all : List (List ℕ)) → AreLines bytes all → SomeReading
   lines-found [] l = absurd (let z = l .some in omega arith)
@@ -116,9 +127,9 @@ module _ (bytes : List ℕ) where
     where
       go : Line1 line → SomeReading
       go (misshapen h) = (_, is4 l h)
-      go (other version h other-version) = (_, is5 l h other-version)
-      go (first e) =
-          body-found rest (subst (λ (top : List ℕ). AreLines bytes (top ∷ rest)) e l)
+      go (other digits h other-version) = (_, is5 l h other-version)
+      go (known version e) =
+          body-found version rest (subst (λ (top : List ℕ). AreLines bytes (top ∷ rest)) e l)
 
   found : SomeReading
   found = go (ℕ-discrete (length bytes) 0) (decLe (length bytes) mostBytes)

@@ -13,6 +13,7 @@ use Rattle.table.specs.Row.{noRow}
 use Rattle.table.specs.declared.Name.{Name}
 use Rattle.table.specs.declared.Row.{Row}
 use Rattle.table.specs.declared.Table.{Table}
+use Rattle.text.specs.declared.Version.{Version}
 use Rattle.conditions.specs.Condition.{nameOf}
 use Rattle.header.specs.Header.{noName, namesFrom}
 use Rattle.rows.specs.Row.{IsRow}
@@ -28,8 +29,9 @@ name-places w =
     length-take-le nameLength (w ++ replicate nameLength 0)
     (rw length-append (omega (arith, length-replicate {A = ℕ} nameLength 0)))
 
-rows-six : {names : List Name} {n : ℕ} {rules : List (List ℕ)} {rows : List Row}
-    → Each (IsRow names n) rules rows → Six rows
+rows-six : {names : List Name} {n : ℕ} {version : Version} {rules : List (List ℕ)}
+    {rows : List Row}
+    → Each (IsRow names n version) rules rows → Six rows
 rows-six none i low = absurd (omega arith)
 rows-six {names} {n} (and {a} {b} h more) zero low =
     sym (ap (λ (r : Row). length (r .sets)) (row-same names n a b (h .has)))

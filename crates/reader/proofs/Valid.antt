@@ -27,6 +27,7 @@ use Rattle.reader.specs.Reading.{zeroRow}
 use Rattle.reader.specs.Grammar.{Each, none, and, IsFile}
 use Rattle.reader.proofs.Only.{names-taken}
 use Rattle.text.specs.Lines.{All, none as all-none, and as all-and}
+use Rattle.text.specs.declared.Version.{Version}
 use Rattle.conditions.specs.Judge.{IsCondition}
 use Rattle.rows.specs.Row.{FieldKind, aCondition, aBound, fieldKinds, IsField, AreFields}
 use Rattle.rows.specs.Row.{none as nothing, and as also, rowValues, Ordered, IsRow}
@@ -104,15 +105,16 @@ module _ (names : List Name) (s : ℕ) where
         held-at held 9 (omega arith),
       )
 
-  row-valid : (line : List ℕ) (row : Row) → IsRow names (width s) line row → rowValid s row ≡ true
+  row-valid : {version : Version} (line : List ℕ) (row : Row)
+      → IsRow names (width s) version line row → rowValid s row ≡ true
   row-valid line row r =
       let same = row-same names (width s) line row (r .has) in
       subst (λ (r : Row). rowValid s r ≡ true) same
       (values-fit (rowValues row) (fields-held (r .has .right)) (subst Ordered (sym same)
       (r .ordered)))
 
-  rows-valid : (rules : List (List ℕ)) (rows : List Row) → Each (IsRow names (width s)) rules rows
-      → every (rowValid s) rows ≡ true
+  rows-valid : {version : Version} (rules : List (List ℕ)) (rows : List Row)
+      → Each (IsRow names (width s) version) rules rows → every (rowValid s) rows ≡ true
   unfolding every
   rows-valid rules rows none = refl
   rows-valid rules rows (and {a} {b} {l} {m} r more) = rw (row-valid a b r) (rows-valid l m more)

@@ -1,3 +1,4 @@
--- The watcher: `Watch` and `Answer` of crate `pass` say what a tick gives, `Counts` what is counted.
+-- The watcher: `Watch` and `Answer` of crate `pass` say what a tick gives, `Counts` what is
+-- counted.
 pub mod Counts
 pub mod inner

@@ -1,14 +1,16 @@
--- `header::check_header` meets its contract, by the tests on the way to each return. Assumes
+-- `header::read_version` meets its contract, by the tests on the way to each return. Assumes
 -- nothing.
 use Rattle.header.proofs.HeaderLaws.{fourDigits, header-long, header-word, header-digits}
 use Rattle.header.proofs.HeaderLaws.{header-version}
 use borrow.Author.Tests.{not-true, not-false}
 use mathlib.Core.Bool.{Bool, true, false, _&&_, cond}
 use mathlib.Core.Path.{_≡_, sym, _∙_}
-use Rattle.header.specs.inner.Header.{headerNumber}
+use Rattle.header.specs.inner.Header.{versionAnswer}
+use Rattle.header.specs.declared.VersionRead.the-variants.{Known, Refused}
+use Rattle.text.specs.declared.Version.the-variants.{First}
 use borrow.Author.Needs.{needs}
-use Rattle.header.proofs.check_header.Statement.{statement}
-use Rattle.header.proofs.check_header.Tie as tie
+use Rattle.header.proofs.read_version.Statement.{statement}
+use Rattle.header.proofs.read_version.Tie as tie
 
 -- the four digits, past the first two tests
 digits : (c : tie.After-is-digit164)
@@ -41,9 +43,9 @@ returns-3 c =
 -- past the first three tests the version decides
 version : (c : tie.After-starts-with2) → let past = c .before .before .before in
     (b : Bool) → c .starts-with2 .result ≡ b
-    → headerNumber (past .before .before .before .before .before .before .before .before .before
+    → versionAnswer (past .before .before .before .before .before .before .before .before .before
     .before .before .before .before .before .args .line .now)
-    ≡ cond b 0 5
+    ≡ cond b (Known First) (Refused 5)
 version c b e =
     let past = c .before .before .before in
     let first = past .before .before .before .before .before .before .before .before .before in
@@ -52,13 +54,13 @@ version c b e =
     (digits (past .before) ∙ not-false _ (past .if3 .left)) b (sym (c .starts-with2 .ensures) ∙ e)
 
 returns-4 : tie.Need-returns-4
-returns-4 c = sym (version (c .before) false (not-true _ (c .if4 .taken)))
+returns-4 c = sym (version (c .before) true (c .if4 .taken))
 
 returns-5 : tie.Need-returns-5
-returns-5 c = sym (version (c .before) true (not-false _ (c .if4 .left)))
+returns-5 c = sym (version (c .before) false (c .if4 .left))
 
-pub check-header-spec : {M : Type 1} → statement M
-check-header-spec =
+pub read-version-spec : {M : Type 1} → statement M
+read-version-spec =
     tie.close (tie.spec
     returns (λ c. search needs) (λ c κs. search needs) returns-2 (λ c. search needs)
     (λ c κs. search needs) (λ c. search needs) (λ c κs. search needs) (λ c. search needs)
