@@ -91,7 +91,10 @@ module _ (table : Table) (w : Writable table) where
       (written-rows rows (λ i low. six (suc i) (omega arith))
       (and-right (rowValid s row) (every (rowValid s) rows) h))
 
-  rows-are : AreRows First (map nameText used) (map (rowText used s) (rowsOf table)) (rowsOf table)
+  abbrev rules : List (List ℕ)
+  rules = map (rowText used s) (rowsOf table)
+
+  rows-are : AreRows (Files.linesOf table (w .sized) (w .passes) rules) rules (rowsOf table)
   rows-are =
       rw (
         Files.words-known table (w .sized) (w .passes),
@@ -103,7 +106,7 @@ module _ (table : Table) (w : Writable table) where
   pub written-file : IsFile (fileText table) table ↔ (length (fileText table) ≤ mostBytes)
   unfolding fileText
   written-file = (
-    λ f. f .header .has-names .lines .few,
+    Files.file-few,
     λ few. subst (IsFile (fileText table)) (Files.table-same table (w .sized) (w .passes))
         (Files.file-is table (w .sized) (w .passes) rows-are
         (Files.rows-counted table (w .sized) (w .passes)) few),

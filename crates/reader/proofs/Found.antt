@@ -20,9 +20,9 @@ use Rattle.header.proofs.Shapes.{Line1, known, other, misshapen, line1-found, L
 use Rattle.header.specs.Header.{versionLine}
 use Rattle.header.proofs.Shapes.{misshapen as misshapen2, line2-found}
 use Rattle.header.proofs.SignalLaws.{length-none}
-use Rattle.rows.specs.Row.{RowFault}
 use Rattle.rows.proofs.Rules.{RowFound, aRow, aFault, row-found}
-use Rattle.reader.specs.Grammar.{AreLines, HasNames, HasHeader, none, and, AreRows}
+use Rattle.reader.specs.Grammar.{AreLines, FileLines, HasNames, HasHeader, none, and}
+use Rattle.reader.specs.Grammar.{AreRows, Fault, ofLines}
 use Rattle.reader.specs.Right.{RightReading, is1, is2, is3, is4, is5, is6missing, is6, is7}
 use Rattle.reader.specs.Right.{is8, is9, isFault, is16, isTable}
 use Rattle.reader.specs.inner.File.{readAnswer}
@@ -30,28 +30,27 @@ use Rattle.reader.specs.declared.Reading.{Reading}
 use Rattle.reader.proofs.Only.{each-length, read-only}
 
 -- Lines, of which at most k may be rows: all are, or one is not, or there is one more.
-data RowsFound (version : Version) (names : List (List ℕ)) (k : ℕ) (rules : List (List ℕ))
-    : Type 0 where
-  all : (rows : List Row) → AreRows version names rules rows → length rules ≤ k
-      → RowsFound version names k rules
+data RowsFound (file : FileLines) (k : ℕ) (rules : List (List ℕ)) : Type 0 where
+  all : (rows : List Row) → AreRows file rules rows → length rules ≤ k
+      → RowsFound file k rules
   one : (before : List (List ℕ)) (rows : List Row) (line : List ℕ) (rest : List (List ℕ))
-      (number : ℕ) → rules ≡ before ++ line ∷ rest → AreRows version names before rows
-      → length before < k → RowFault (map nameOf names) (width (length names)) version line number
-      → RowsFound version names k rules
+      (number : ℕ) → rules ≡ before ++ line ∷ rest → AreRows file before rows
+      → length before < k → Fault file line number
+      → RowsFound file k rules
   over : (before : List (List ℕ)) (rows : List Row) (line : List ℕ) (rest : List (List ℕ))
-      → rules ≡ before ++ line ∷ rest → AreRows version names before rows → length before ≡ k
-      → RowsFound version names k rules
+      → rules ≡ before ++ line ∷ rest → AreRows file before rows → length before ≡ k
+      → RowsFound file k rules
 
-rows-found : (version : Version) (names : List (List ℕ)) (k : ℕ) (rules : List (List ℕ))
-    → RowsFound version names k rules
-rows-found version names k [] = all [] none (omega arith)
-rows-found version names zero (line ∷ rest) = over [] [] line rest refl none refl
-rows-found version names (suc k) (line ∷ rest) =
-    go (row-found (map nameOf names) (width (length names)) version line)
-    (rows-found version names k rest)
+rows-found : (file : FileLines) (k : ℕ) (rules : List (List ℕ))
+    → RowsFound file k rules
+rows-found file k [] = all [] none (omega arith)
+rows-found file zero (line ∷ rest) = over [] [] line rest refl none refl
+rows-found file (suc k) (line ∷ rest) =
+    go (row-found (map nameOf (file .names)) (width (length (file .names))) (file .version) line)
+    (rows-found file k rest)
   where
-    go : RowFound (map nameOf names) (width (length names)) version line
-        → RowsFound version names k rest → RowsFound version names (suc k) (line ∷ rest)
+    go : RowFound (map nameOf (file .names)) (width (length (file .names))) (file .version) line
+        → RowsFound file k rest → RowsFound file (suc k) (line ∷ rest)
     go (aFault number f) later = one [] [] line rest number refl none (omega arith) f
     go (aRow row r) (all rows are few) = all (row ∷ rows) (and r are) (omega arith)
     go (aRow row r) (one before rows next more number e are low f) =
@@ -73,43 +72,42 @@ module _ (bytes : List ℕ) where
   abbrev SomeReading : Type 0
   SomeReading = (r : Reading) × RightReading bytes r
 
-  rules-found : (version : Version) (names rules : List (List ℕ))
-      → HasHeader bytes version names rules → SomeReading
-  rules-found version names [] b = (_, is16 b)
-  rules-found version names (line ∷ rest) b =
-      go (rows-found version names mostRows (line ∷ rest))
-    where
-      go : RowsFound version names mostRows (line ∷ rest) → SomeReading
-      go (all rows are few) = (
-        _,
-        isTable (record {
-          version = version;
-          names = names;
-          rules = line ∷ rest;
-          rows = rows;
-          header = b;
-          rows-are = are;
-          rows-some = omega (arith, each-length are);
-          rows-few = omega (arith, each-length are);
-          table-is = refl;
-        }),
-      )
-      go (one before rows fault more number e are low f) =
-          (_, isFault fault more (subst (HasHeader bytes version names) e b) are low f)
-      go (over before rows ninth more e are full) =
-          (_, is9 ninth more (subst (HasHeader bytes version names) e b) are full)
+  module _ (file : FileLines) (b : HasHeader bytes file) where
+    rules-found : SomeReading
+    rules-found = go (file .rules) refl (rows-found file mostRows (file .rules))
+      where
+        go : (rules : List (List ℕ)) → file .rules ≡ rules
+            → RowsFound file mostRows (file .rules) → SomeReading
+        go [] e found = (_, is16 b e)
+        go (line ∷ rest) e (all rows are few) =
+            let many = each-length are in
+            let some = ap length e in (
+              _,
+              isTable (ofLines (record {
+                file = file;
+                rows = rows;
+                header = b;
+                rows-are = are;
+                rows-some = omega arith;
+                rows-few = omega arith;
+                table-is = refl;
+              })),
+            )
+        go (line ∷ rest) e (one before rows fault more number same are low f) =
+            (_, isFault fault more b same are low f)
+        go (line ∷ rest) e (over before rows ninth more same are full) =
+            (_, is9 ninth more b same are full)
 
-  signals-found : (version : Version) (names rest : List (List ℕ))
-      → HasNames bytes version names rest → SomeReading
-  signals-found version names rest n =
-      go (decLe (length names) mostSignals) (allDistinct (map nameOf names)) refl
+  signals-found : (file : FileLines) → HasNames bytes file → SomeReading
+  signals-found file n =
+      go (decLe (length (file .names)) mostSignals) (allDistinct (map nameOf (file .names))) refl
     where
-      go : Dec (length names ≤ mostSignals) → (t : Bool) → allDistinct (map nameOf names) ≡ t
-          → SomeReading
+      go : Dec (length (file .names) ≤ mostSignals) → (t : Bool)
+          → allDistinct (map nameOf (file .names)) ≡ t → SomeReading
       go (no many) t e = (_, is7 n (omega arith))
       go (yes few) false e = (_, is8 n few e)
       go (yes few) true e =
-          rules-found version names rest (record { has-names = n; few = few; differ = e })
+          rules-found file (record { has-names = n; few = few; differ = e })
 
   body-found : (version : Version) (body : List (List ℕ))
       → AreLines bytes (versionLine version ∷ body) → SomeReading
@@ -119,7 +117,8 @@ module _ (bytes : List ℕ) where
       go : Line2 line → SomeReading
       go (misshapen2 h) = (_, is6 version l h)
       go (signals names s) =
-          signals-found version names rest (record { line2 = line; lines = l; signals = s })
+          signals-found (record { version = version; names = names; rules = rest })
+          (record { line2 = line; lines = l; signals = s })
 
   lines-found : (all : List (List ℕ)) → AreLines bytes all → SomeReading
   lines-found [] l = absurd (let z = l .some in omega arith)

@@ -23,12 +23,12 @@ use Rattle.header.specs.inner.Header.{signalsAnswer}
 use Rattle.header.specs.declared.Signals.{Signals}
 use Rattle.header.proofs.Shapes.{header-known, header-other, header-none, header-right}
 use Rattle.header.proofs.Shapes.{signals-many, signals-twice, signals-read, signals-none}
-use Rattle.rows.specs.Row.{RowFault}
 use Rattle.rows.specs.inner.Row.{rowAnswer}
 use Rattle.rows.specs.declared.RowRead.{RowRead}
 use Rattle.rows.proofs.Rules.{row-read, fault-read}
 use Rattle.reader.specs.Reading.{tableFrom, accepted, refusedFile}
-use Rattle.reader.specs.Grammar.{AreLines, HasHeader, Each, none, and, AreRows, IsFile}
+use Rattle.reader.specs.Grammar.{AreLines, FileLines, HasHeader, Each, none, and, AreRows}
+use Rattle.reader.specs.Grammar.{Fault, HasRows, ofLines}
 use Rattle.reader.specs.Right.{RightReading, is1, is2, is3, is4, is5, is6missing, is6, is7}
 use Rattle.reader.specs.Right.{is8, is9, isFault, is16, isTable}
 use Rattle.reader.specs.inner.File.{Rows, rowsRead, fault, afterRow, rowOf, rowsFrom}
@@ -57,10 +57,22 @@ after-more : (row : Row) (rows : List Row) (rest : Rows)
 after-more row rows (rowsRead more) = refl
 after-more row rows (fault number line) = refl
 
--- The rows, in a file of a version with these names.
-module _ (version : Version) (names : List (List ℕ)) where
+-- The rows, in a file of these lines.
+module _ (file : FileLines) where
+  abbrev version : Version
+  version = file .version
+
+  abbrev names : List (List ℕ)
+  names = file .names
+
   abbrev rowsAt : ℕ → List (List ℕ) → Rows
   rowsAt = rowsFrom (namesFrom names) (length names) version
+
+  abbrev readingOf : Rows → Reading
+  readingOf = rowsReading (namesFrom names) (length names) version
+
+  abbrev answerTo : List (List ℕ) → Reading
+  answerTo = rowsAnswer (namesFrom names) (length names) version
 
   module _ (i : ℕ) (h : i < mostRows) (line : List ℕ) (more : List (List ℕ)) where
     rows-next : (read : RowRead)
@@ -70,8 +82,7 @@ module _ (version : Version) (names : List (List ℕ)) where
     rows-next read e z = rw (lt-ltb i mostRows h, names-taken names, e, z)
 
     rows-stop : (number : ℕ)
-        → RowFault (map nameOf names) (width (length names)) version line number
-        → rowsAt i (line ∷ more) ≡ fault number (i + 3)
+        → Fault file line number → rowsAt i (line ∷ more) ≡ fault number (i + 3)
     unfolding rowsFrom
     rows-stop number f =
         let found = fault-read (map nameOf names) (width (length names)) version line number f in
@@ -83,7 +94,7 @@ module _ (version : Version) (names : List (List ℕ)) where
   rows-ninth line more = refl
 
   rows-after : (i : ℕ) (rules : List (List ℕ)) (rows : List Row)
-      → AreRows version names rules rows
+      → AreRows file rules rows
       → i + length rules ≤ mostRows → (rest : List (List ℕ))
       → rowsAt i (rules ++ rest) ≡ afterRows rows (rowsAt (i + length rules) rest)
   rows-after i rules rows none h rest =
@@ -124,57 +135,55 @@ module _ (bytes : List ℕ) where
   unfolding bodyAnswer
   signals-next version line rest l = body-read version (line ∷ rest) l
 
-  rules-next : (version : Version) (names rules : List (List ℕ))
-      → HasHeader bytes version names rules
-      → readAnswer bytes ≡ rowsAnswer (namesFrom names) (length names) version rules
-  rules-next version names rules b =
+  rules-next : (file : FileLines) → HasHeader bytes file
+      → readAnswer bytes ≡ answerTo file (file .rules)
+  rules-next file b =
       let n = b .has-names in
-      signals-next version (n .line2) rules (n .lines)
-      ∙ ap (λ (r : Signals). afterSignals version r rules)
-      (signals-read (n .line2) names (n .signals) (b .few) (b .differ))
+      signals-next (file .version) (n .line2) (file .rules) (n .lines)
+      ∙ ap (λ (r : Signals). afterSignals (file .version) r (file .rules))
+      (signals-read (n .line2) (file .names) (n .signals) (b .few) (b .differ))
 
   -- The rows of a line that is no row, or the ninth, and of those before it.
-  rows-fault : (version : Version) (names rules : List (List ℕ)) (rows : List Row) (line : List ℕ)
-      (rest : List (List ℕ)) → AreRows version names rules rows → length rules ≤ mostRows
-      → (number place : ℕ) → rowsAt version names (length rules) (line ∷ rest) ≡ fault number place
-      → HasHeader bytes version names (rules ++ line ∷ rest)
-      → readAnswer bytes ≡ refusedFile number place
+  rows-fault : (file : FileLines) (before : List (List ℕ)) (rows : List Row) (line : List ℕ)
+      (rest : List (List ℕ)) → file .rules ≡ before ++ line ∷ rest → AreRows file before rows
+      → length before ≤ mostRows → (number place : ℕ)
+      → rowsAt file (length before) (line ∷ rest) ≡ fault number place
+      → HasHeader bytes file → readAnswer bytes ≡ refusedFile number place
   unfolding rowsAnswer
-  rows-fault version names rules rows line rest are few number place e b =
-      rules-next version names (rules ++ line ∷ rest) b
-      ∙ some rules
-      ∙ ap (rowsReading (namesFrom names) (length names) version)
-      (rows-after version names 0 rules rows are (omega arith) (line ∷ rest)
-      ∙ ap (afterRows rows) (ap (λ (k : ℕ). rowsAt version names k (line ∷ rest)) zero-add ∙ e))
+  rows-fault file before rows line rest same are few number place e b =
+      rules-next file b
+      ∙ ap (answerTo file) same
+      ∙ some before
+      ∙ ap (readingOf file)
+      (rows-after file 0 before rows are (omega arith) (line ∷ rest)
+      ∙ ap (afterRows rows) (ap (λ (k : ℕ). rowsAt file k (line ∷ rest)) zero-add ∙ e))
     where
-      zero-add : 0 + length rules ≡ length rules
+      zero-add : 0 + length before ≡ length before
       zero-add = omega arith
 
       some : (rules : List (List ℕ))
-          → rowsAnswer (namesFrom names) (length names) version (rules ++ line ∷ rest)
-          ≡ rowsReading (namesFrom names) (length names) version
-          (rowsAt version names 0 (rules ++ line ∷ rest))
+          → answerTo file (rules ++ line ∷ rest)
+          ≡ readingOf file (rowsAt file 0 (rules ++ line ∷ rest))
       some [] = refl
       some (rule ∷ rules) = refl
 
-  table-read : (table : Table) → IsFile bytes table → readAnswer bytes ≡ accepted table
+  table-read : (table : Table) → HasRows bytes table → readAnswer bytes ≡ accepted table
   unfolding rowsAnswer rowsFrom
   table-read table f =
-      rules-next (f .version) (f .names) (f .rules) (f .header)
-      ∙ go (f .rules) (each-length (f .rows-are))
-      (sym (ap (rowsAt (f .version) (f .names) 0) (append-nil (f .rules)))
-      ∙ rows-after (f .version) (f .names) 0 (f .rules) (f .rows) (f .rows-are)
+      rules-next (f .file) (f .header)
+      ∙ go (f .file .rules) (each-length (f .rows-are))
+      (sym (ap (rowsAt (f .file) 0) (append-nil (f .file .rules)))
+      ∙ rows-after (f .file) 0 (f .file .rules) (f .rows) (f .rows-are)
       (omega (arith, f .rows-few, each-length (f .rows-are))) []
       ∙ ap rowsRead (append-nil (f .rows)))
       ∙ ap accepted (sym (f .table-is))
     where
       go : (rules : List (List ℕ)) → length (f .rows) ≡ length rules
-          → rowsAt (f .version) (f .names) 0 rules ≡ rowsRead (f .rows)
-          → rowsAnswer (namesFrom (f .names)) (length (f .names)) (f .version) rules
-          ≡ accepted (tableFrom (length (f .names)) (namesFrom (f .names)) (f .rows))
+          → rowsAt (f .file) 0 rules ≡ rowsRead (f .rows)
+          → answerTo (f .file) rules
+          ≡ accepted (tableFrom (length (f .file .names)) (namesFrom (f .file .names)) (f .rows))
       go [] e h = absurd (omega (arith, f .rows-some))
-      go (line ∷ more) e h =
-          ap (rowsReading (namesFrom (f .names)) (length (f .names)) (f .version)) h
+      go (line ∷ more) e h = ap (readingOf (f .file)) h
 
   pub read-only : (r : Reading) → RightReading bytes r → readAnswer bytes ≡ r
   unfolding fileAnswer bodyAnswer rowsAnswer
@@ -192,23 +201,22 @@ module _ (bytes : List ℕ) where
   read-only r (is6 version {line} {rest} l h) =
       signals-next version line rest l
       ∙ ap (λ (r : Signals). afterSignals version r rest) (signals-none line h)
-  read-only r (is7 {version} {names} {rest} n many) =
-      signals-next version (n .line2) rest (n .lines)
-      ∙ ap (λ (r : Signals). afterSignals version r rest)
-      (signals-many (n .line2) names (n .signals) many)
-  read-only r (is8 {version} {names} {rest} n few twice) =
-      signals-next version (n .line2) rest (n .lines)
-      ∙ ap (λ (r : Signals). afterSignals version r rest)
-      (signals-twice (n .line2) names (n .signals) few twice)
-  read-only r (is9 {version} {names} {rules} {rows} line rest b are e) =
-      rows-fault version names rules rows line rest are (omega arith) 9 (mostRows + 3)
-      (ap (λ (k : ℕ). rowsAt version names k (line ∷ rest)) e
-      ∙ rows-ninth version names line rest) b
-  read-only r (isFault {version} {names} {rules} {rows} {number} line rest b are low f) =
-      rows-fault version names rules rows line rest are (omega arith) number (length rules + 3)
-      (rows-stop version names (length rules) low line rest number f) b
-  read-only r (is16 {version} {names} b) = rules-next version names [] b
-  read-only r (isTable {table} f) = table-read table f
+  read-only r (is7 {file} n many) =
+      signals-next (file .version) (n .line2) (file .rules) (n .lines)
+      ∙ ap (λ (r : Signals). afterSignals (file .version) r (file .rules))
+      (signals-many (n .line2) (file .names) (n .signals) many)
+  read-only r (is8 {file} n few twice) =
+      signals-next (file .version) (n .line2) (file .rules) (n .lines)
+      ∙ ap (λ (r : Signals). afterSignals (file .version) r (file .rules))
+      (signals-twice (n .line2) (file .names) (n .signals) few twice)
+  read-only r (is9 {file} {before} {rows} line rest b same are e) =
+      rows-fault file before rows line rest same are (omega arith) 9 (mostRows + 3)
+      (ap (λ (k : ℕ). rowsAt file k (line ∷ rest)) e ∙ rows-ninth file line rest) b
+  read-only r (isFault {file} {before} {rows} {number} line rest b same are low f) =
+      rows-fault file before rows line rest same are (omega arith) number (length before + 3)
+      (rows-stop file (length before) low line rest number f) b
+  read-only r (is16 {file} b empty) = rules-next file b ∙ ap (answerTo file) empty
+  read-only r (isTable {table} (ofLines f)) = table-read table f
 
 -- The first bytes of a file that is too long say so.
 pub read-first-bytes : (bytes : List ℕ)

@@ -24,7 +24,7 @@ use Rattle.conditions.specs.Condition.{IsName, nameOf, holdsAt}
 use Rattle.conditions.proofs.Places.{nameOf-valid}
 use Rattle.header.specs.Header.{noName, namesFrom}
 use Rattle.reader.specs.Reading.{zeroRow}
-use Rattle.reader.specs.Grammar.{Each, none, and, IsFile}
+use Rattle.reader.specs.Grammar.{Each, none, and, HasRows, IsFile, ofLines}
 use Rattle.reader.proofs.Only.{names-taken}
 use Rattle.text.specs.Lines.{All, none as all-none, and as all-and}
 use Rattle.text.specs.declared.Version.{Version}
@@ -119,29 +119,29 @@ module _ (names : List Name) (s : ℕ) where
   rows-valid rules rows none = refl
   rows-valid rules rows (and {a} {b} {l} {m} r more) = rw (row-valid a b r) (rows-valid l m more)
 
-module _ (bytes : List ℕ) (t : Table) (f : IsFile bytes t) where
+module _ (bytes : List ℕ) (t : Table) (f : HasRows bytes t) where
   abbrev s : ℕ
-  s = length (f .names)
+  s = length (f .file .names)
 
   abbrev known : List Name
-  known = map nameOf (f .names)
+  known = map nameOf (f .file .names)
 
-  names-are-valid : namesValid s (namesFrom (f .names)) ≡ true
+  names-are-valid : namesValid s (namesFrom (f .file .names)) ≡ true
   unfolding namesValid
   names-are-valid =
       let free = replicate (mostSignals - s) noName in
       rw (
-        names-taken (f .names),
+        names-taken (f .file .names),
         drop-at known free s
-            (length-map (f .names) nameOf),
-        names-valid (f .names) (f .header .has-names .signals .named),
+            (length-map (f .file .names) nameOf),
+        names-valid (f .file .names) (f .header .has-names .signals .named),
         f .header .differ,
       )
       (every-same nameUnused noName no-name (mostSignals - s))
 
-  pub file-valid : tableValid t ≡ true
+  lines-valid : tableValid t ≡ true
   unfolding tableValid rowsValid
-  file-valid =
+  lines-valid =
       let many = length (f .rows) in
       let free = replicate (mostRows - many) zeroRow in
       rw (
@@ -150,7 +150,10 @@ module _ (bytes : List ℕ) (t : Table) (f : IsFile bytes t) where
         drop-at (f .rows) free many refl,
         counts-right s many (f .header .has-names .signals .some) (f .header .few) (f .rows-some)
             (f .rows-few),
-        rows-valid known s (f .rules) (f .rows) (f .rows-are),
+        rows-valid known s (f .file .rules) (f .rows) (f .rows-are),
         names-are-valid,
       )
       (every-same rowUnused zeroRow zero-row (mostRows - many))
+
+pub file-valid : (bytes : List ℕ) (t : Table) → IsFile bytes t → tableValid t ≡ true
+file-valid bytes t (ofLines f) = lines-valid bytes t f

@@ -65,7 +65,10 @@ module _ (table : Table) (sized : Sized table) (fits : tableValid table ≡ true
         tableValid-count table fits,
       ))
 
-  rows-are : AreRows First words (map lineOf (rowsOf table)) rows
+  abbrev rules : List (List ℕ)
+  rules = map lineOf (rowsOf table)
+
+  rows-are : AreRows (Files.linesOf table sized fits rules) rules rows
   rows-are =
       lines-rows s (map nameOf words) (width (length words)) First (rowsOf table)
       (Files.rows-valid table sized fits)

@@ -6,7 +6,6 @@ use mathlib.Core.Bool.{false}
 use mathlib.Core.List.{List, [], _∷_, _++_, map}
 use mathlib.Core.Path.{_≡_}
 use lib.ListN.{length}
-use Rattle.letters.specs.Letter.{width}
 use Rattle.table.specs.Limits.{mostBytes, mostSignals, mostRows}
 use Rattle.table.specs.Name.{allDistinct}
 use Rattle.table.specs.declared.Row.{Row}
@@ -16,8 +15,8 @@ use Rattle.text.specs.Words.{versionDigits}
 use Rattle.text.specs.declared.Version.{Version}
 use Rattle.conditions.specs.Condition.{nameOf}
 use Rattle.header.specs.Header.{IsHeader, versionLine, IsSignals}
-use Rattle.rows.specs.Row.{RowFault}
-use Rattle.reader.specs.Grammar.{AreLines, HasNames, HasHeader, AreRows, IsFile}
+use Rattle.reader.specs.Grammar.{AreLines, FileLines, HasNames, HasHeader, AreRows, Fault}
+use Rattle.reader.specs.Grammar.{IsFile}
 use Rattle.reader.specs.Reading.{accepted, refusedFile}
 use Rattle.reader.specs.declared.Reading.{Reading}
 
@@ -46,26 +45,24 @@ module _ (bytes : List ℕ) where
         → AreLines bytes (versionLine version ∷ line ∷ rest)
         → ((names : List (List ℕ)) → IsSignals line names → ⊥) → RightReading (refusedFile 6 2)
     -- "over six signals"
-    is7 : {version : Version} {names rest : List (List ℕ)} → HasNames bytes version names rest
-        → mostSignals < length names → RightReading (refusedFile 7 2)
+    is7 : {file : FileLines} → HasNames bytes file → mostSignals < length (file .names)
+        → RightReading (refusedFile 7 2)
     -- "a name twice"
-    is8 : {version : Version} {names rest : List (List ℕ)} → HasNames bytes version names rest
-        → length names ≤ mostSignals → allDistinct (map nameOf names) ≡ false
-        → RightReading (refusedFile 8 2)
+    is8 : {file : FileLines} → HasNames bytes file → length (file .names) ≤ mostSignals
+        → allDistinct (map nameOf (file .names)) ≡ false → RightReading (refusedFile 8 2)
     -- "ninth row": whatever it holds
-    is9 : {version : Version} {names rules : List (List ℕ)} {rows : List Row} (line : List ℕ)
-        (rest : List (List ℕ)) → HasHeader bytes version names (rules ++ line ∷ rest)
-        → AreRows version names rules rows → length rules ≡ mostRows
+    is9 : {file : FileLines} {before : List (List ℕ)} {rows : List Row} (line : List ℕ)
+        (rest : List (List ℕ)) → HasHeader bytes file → file .rules ≡ before ++ line ∷ rest
+        → AreRows file before rows → length before ≡ mostRows
         → RightReading (refusedFile 9 (mostRows + 3))
     -- 10 to 15, of the first line that is no row
-    isFault : {version : Version} {names rules : List (List ℕ)} {rows : List Row} {number : ℕ}
-        (line : List ℕ) (rest : List (List ℕ))
-        → HasHeader bytes version names (rules ++ line ∷ rest)
-        → AreRows version names rules rows → length rules < mostRows
-        → RowFault (map nameOf names) (width (length names)) version line number
-        → RightReading (refusedFile number (length rules + 3))
+    isFault : {file : FileLines} {before : List (List ℕ)} {rows : List Row} {number : ℕ}
+        (line : List ℕ) (rest : List (List ℕ)) → HasHeader bytes file
+        → file .rules ≡ before ++ line ∷ rest → AreRows file before rows
+        → length before < mostRows → Fault file line number
+        → RightReading (refusedFile number (length before + 3))
     -- "no row"
-    is16 : {version : Version} {names : List (List ℕ)} → HasHeader bytes version names []
+    is16 : {file : FileLines} → HasHeader bytes file → file .rules ≡ []
         → RightReading (refusedFile 16 3)
     -- no number fits
     isTable : {table : Table} → IsFile bytes table → RightReading (accepted table)
