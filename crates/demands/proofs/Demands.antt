@@ -22,9 +22,10 @@ use Rattle.step.specs.Tick.{rowSystem}
 use Rattle.step.specs.Fires.{Fires}
 use Rattle.step.specs.Events.{noEvents, rowEvents, Event, timesOf, isOpen}
 use Rattle.step.specs.Valid.{phasesValid}
-use Rattle.watcher.specs.declared.Watch.{Watch}
-use Rattle.watcher.specs.Watch.{phasesOf, startWatch, countOf, noCounts}
-use Rattle.watcher.specs.Answer.{tickAnswer}
+use Rattle.pass.specs.declared.Watch.{Watch}
+use Rattle.pass.specs.Watch.{phasesOf, startWatch}
+use Rattle.pass.specs.Answer.{tickAnswer}
+use Rattle.watcher.specs.Counts.{countOf, noCounts}
 use Rattle.watcher.specs.inner.Tables.{tablePlay}
 use Rattle.reader.specs.Reading.{accepted}
 use Rattle.reader.specs.Grammar.{IsFile}

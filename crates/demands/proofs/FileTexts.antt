@@ -20,6 +20,7 @@ use Rattle.table.specs.declared.Table.{Table}
 use Rattle.table.proofs.Laws.{rowValid-bounds, rowValid-sets, tableValid-signals}
 use Rattle.text.specs.Lines.{joined, comma, All, none as all-none, and as all-and}
 use Rattle.text.specs.Words.{ruleWord}
+use Rattle.text.specs.declared.Version.the-variants.{First}
 use Rattle.conditions.specs.Judge.{IsCondition}
 use Rattle.header.specs.Header.{namesFrom}
 use Rattle.rows.specs.Row.{fieldKinds, IsRow}
@@ -74,14 +75,14 @@ module _ (table : Table) (w : Writable table) where
       (sets-mean sets (and-right (setValid s set) (every (setValid s) sets) h))
 
   written-row : (row : Row) → length (row .sets) ≡ conditions → rowValid s row ≡ true
-      → IsRow used (width s) (rowText used s row) row
+      → IsRow used (width s) First (rowText used s row) row
   written-row row six h =
-      subst (λ (line : List ℕ). IsRow used (width s) line row) (line-same used s row six)
-      (line-row (conditionText used s) used (width s) row six
+      subst (λ (line : List ℕ). IsRow used (width s) First line row) (line-same used s row six)
+      (line-row (conditionText used s) used (width s) First row six
       (sets-mean (row .sets) (rowValid-sets s row h)) (rowValid-bounds s row h))
 
   written-rows : (rows : List Row) → Six rows → every (rowValid s) rows ≡ true
-      → Each (IsRow used (width s)) (map (rowText used s) rows) rows
+      → Each (IsRow used (width s) First) (map (rowText used s) rows) rows
   unfolding every
   written-rows [] six h = none
   written-rows (row ∷ rows) six h =
@@ -90,7 +91,10 @@ module _ (table : Table) (w : Writable table) where
       (written-rows rows (λ i low. six (suc i) (omega arith))
       (and-right (rowValid s row) (every (rowValid s) rows) h))
 
-  rows-are : AreRows (map nameText used) (map (rowText used s) (rowsOf table)) (rowsOf table)
+  abbrev rules : List (List ℕ)
+  rules = map (rowText used s) (rowsOf table)
+
+  rows-are : AreRows (Files.linesOf table (w .sized) (w .passes) rules) rules (rowsOf table)
   rows-are =
       rw (
         Files.words-known table (w .sized) (w .passes),
@@ -102,7 +106,7 @@ module _ (table : Table) (w : Writable table) where
   pub written-file : IsFile (fileText table) table ↔ (length (fileText table) ≤ mostBytes)
   unfolding fileText
   written-file = (
-    λ f. f .header .has-names .lines .few,
+    Files.file-few,
     λ few. subst (IsFile (fileText table)) (Files.table-same table (w .sized) (w .passes))
         (Files.file-is table (w .sized) (w .passes) rows-are
         (Files.rows-counted table (w .sized) (w .passes)) few),

@@ -27,11 +27,11 @@ use Rattle.step.proofs.Rows.{tick-at, valid-at}
 use Rattle.step.proofs.RowEvents as RowEvents
 use Rattle.step.proofs.Happened as Happened
 use Rattle.step.proofs.Restarts as Restarts
-use Rattle.watcher.specs.declared.Ticked.{Ticked}
-use Rattle.watcher.specs.declared.Watch.{Watch}
-use Rattle.watcher.specs.Watch.{phasesOf}
-use Rattle.watcher.specs.Answer.{movedOn, tickAnswer}
-use Rattle.watcher.proofs.Records.{phases-watch}
+use Rattle.pass.specs.declared.Ticked.{Ticked}
+use Rattle.pass.specs.declared.Watch.{Watch}
+use Rattle.pass.specs.Watch.{phasesOf}
+use Rattle.pass.specs.Answer.{movedOn, tickAnswer}
+use Rattle.pass.proofs.Records.{phases-watch}
 use Rattle.demands.specs.Watching.{recordAfter, CallValid}
 use Rattle.demands.proofs.WatchLaws.{tick-taken, after-accepted, row-follows, fits-long}
 

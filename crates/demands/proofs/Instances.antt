@@ -9,7 +9,7 @@ use lib.Dec.{lit≤}
 use lib.ListN.{length}
 use Rattle.letters.specs.Letter.{bitAt, setOf}
 use Rattle.letters.specs.Lists.{some}
-use Rattle.table.specs.Valid.{rowsValid, tableValid, rowsOf}
+use Rattle.table.specs.Valid.{countsAllowed, tableValid, rowsOf}
 use Rattle.table.specs.declared.Row.{Row}
 use Rattle.table.specs.declared.Table.{Table}
 use Rattle.traces.specs.inner.Explore.{has, enter, visit, explore}
@@ -145,7 +145,7 @@ module _ (lent : Lent) where
 
 -- The empty table is 17: it has no signals.
 empty-invalid : tableValid emptyTable ≡ false
-unfolding tableValid rowsValid
+unfolding tableValid countsAllowed
 empty-invalid = refl
 
 pub empty-refused : (lent : Lent)

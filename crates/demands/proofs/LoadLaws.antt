@@ -20,8 +20,8 @@ use Rattle.step.specs.declared.Phase.the-variants.{Waiting, Trigger, Delay, Act
 use Rattle.step.specs.Events.{traceEvents, Event, timesOf, isOpen}
 use Rattle.step.specs.Phase.{isBroken}
 use Rattle.step.specs.Tick.{rowSystem}
-use Rattle.watcher.specs.Watch.{phasesOf, startWatch}
-use Rattle.watcher.proofs.Starts.{start-phase}
+use Rattle.pass.specs.Watch.{phasesOf, startWatch}
+use Rattle.pass.proofs.Starts.{start-phase}
 use Rattle.load.specs.declared.Ran.{Ran}
 use Rattle.load.specs.declared.Totals.{Totals}
 use Rattle.load.specs.Load.{loadOf, timesIn, totalsOf, noTotals, longestRun, runAnswer}

@@ -2,18 +2,21 @@
 use Prim.Native.Nat.{ℕ, suc}
 use native.Mathlib.Omega.{arith}
 use mathlib.Core.List.{List, [], _∷_, _++_}
-use mathlib.Core.Path.{_≡_, sym, ap, subst, _∙_}
+use mathlib.Core.Path.{_≡_, subst, _∙_}
 use lib.ListN.{length, take, length-map}
-use lib.Seq.{take-at, take-append-seam}
+use lib.Seq.{take-at}
 use Rattle.table.specs.Limits.{mostBytes}
 use Rattle.table.specs.Valid.{rowsOf}
 use Rattle.table.specs.declared.Table.{Table}
+use Rattle.table.proofs.Laws.{tableValid-count}
 use Rattle.text.specs.Lines.{ended}
 use Rattle.reader.specs.Grammar.{IsFile}
 use Rattle.reader.specs.Right.{RightReading}
 use Rattle.reader.specs.inner.File.{readAnswer}
 use Rattle.reader.proofs.Accepted.{Decided, taken, turned, read-decided, file-accepted}
 use Rattle.reader.proofs.Valid.{file-valid}
+use Rattle.reader.proofs.Sizes.{file-sized}
+use Rattle.reader.proofs.Files.{rows-counted}
 use Rattle.reader.proofs.Found.{read-answered}
 use Rattle.reader.proofs.Only.{read-only, read-first-bytes}
 use Rattle.load.specs.Load.{totalsOver, sumsOf, runAnswer}
@@ -28,14 +31,10 @@ use Rattle.demands.specs.further.Load.LoadPrints.{refused as refusal, to
 
 -- The table of a file has all rows that it counts.
 module _ (bytes : List ℕ) (table : Table) (file : IsFile bytes table) where
-  rows-are : rowsOf table ≡ file .rows
-  rows-are = ap rowsOf (file .table-is) ∙ take-append-seam (file .rows) _
-
-  rows-counted : length (rowsOf table) ≡ table .count
-  rows-counted = ap length rows-are ∙ sym (ap (λ (t : Table). t .count) (file .table-is))
-
   each-counted : length (loadTotals table) ≡ table .count
-  each-counted = length-map (rowsOf table) _ ∙ rows-counted
+  each-counted =
+      length-map (rowsOf table) _
+      ∙ rows-counted table (file-sized bytes table file) (file-valid bytes table file)
 
   -- What the program prints of it.
   text-is : runBytes (table .count) (runAnswer table loadStart loadTicks)
@@ -70,10 +69,10 @@ module _ (bytes : List ℕ) where
     where
       go : Decided bytes (readAnswer bytes) → LoadPrints (loadAnswer bytes)
       go (taken table file e) =
-          let few : length (loadTotals table) ≡ length (file .rows) =
-          length-map (rowsOf table) _ ∙ ap length (rows-are bytes table file) in
+          let each = each-counted bytes table file in
+          let counts = tableValid-count table (file-valid bytes table file) in
           rw (e, text-is bytes table file) (totals (loadTotals table)
-          (omega (arith, few, file .rows-some)) (omega (arith, few, file .rows-few)))
+          (omega (arith, counts .0)) (omega (arith, counts .1)))
       go (turned number line one small low e) = rw e (refusal number line one small)
 
 -- No more of a file is read than its first 4,097 bytes.

@@ -16,8 +16,8 @@ use Rattle.traces.specs.Trace.{AllBelow}
 use Rattle.step.specs.declared.Phase.the-variants.{Waiting}
 use Rattle.step.specs.Events.{Event, timesOf, isOpen}
 use Rattle.step.specs.Phase.{isBroken}
-use Rattle.watcher.specs.Watch.{phasesOf, startWatch}
-use Rattle.watcher.specs.Answer.{tickAnswer}
+use Rattle.pass.specs.Watch.{phasesOf, startWatch}
+use Rattle.pass.specs.Answer.{tickAnswer}
 use Rattle.load.specs.declared.Ran.{Ran}
 use Rattle.load.specs.declared.Totals.{Totals}
 use Rattle.load.specs.Load.{loadOf, totalsOf, noTotals, sumsOf, longestRun, runAnswer}

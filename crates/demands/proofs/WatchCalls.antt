@@ -27,14 +27,15 @@ use Rattle.step.specs.Tick.{tick, tableSystem}
 use Rattle.step.proofs.RowEvents.{times-few, trace-sums}
 use Rattle.step.specs.Valid.{phasesValid}
 use Rattle.watcher.specs.declared.Played.{Played}
-use Rattle.watcher.specs.declared.Ticked.{Ticked}
-use Rattle.watcher.specs.declared.Watch.{Watch}
-use Rattle.watcher.specs.Watch.{phasesOf, watchOf, countOf, noCounts}
-use Rattle.watcher.specs.Answer.{firstNumber, answered, refusedWith, movedOn, tickAnswer}
+use Rattle.pass.specs.declared.Ticked.{Ticked}
+use Rattle.pass.specs.declared.Watch.{Watch}
+use Rattle.pass.specs.Watch.{phasesOf, watchOf}
+use Rattle.pass.specs.Answer.{firstNumber, answered, refusedWith, movedOn, tickAnswer}
+use Rattle.watcher.specs.Counts.{countOf, noCounts}
 use Rattle.watcher.specs.inner.Tables.{tableTick, stoppedBy, playedOver, tablePlay}
 use Rattle.watcher.proofs.Counting.{times-counted}
-use Rattle.watcher.proofs.Records.{watch-phases, phases-watch}
-use Rattle.watcher.proofs.Starts.{number-is, line-is, refused-is}
+use Rattle.pass.proofs.Records.{watch-phases, phases-watch}
+use Rattle.pass.proofs.Starts.{number-is, line-is, refused-is}
 use Rattle.demands.specs.Watching.{recordAfter, eventsOver, CallValid}
 use Rattle.demands.proofs.WatchLaws.{tick-taken, after-run, after-accepted, fits-long}
 

@@ -24,13 +24,13 @@ use Rattle.step.specs.Valid.{phasesValid, phaseValid}
 use Rattle.step.proofs.States.{phases-back}
 use Rattle.step.proofs.Rows.{tick-valid}
 use Rattle.step.proofs.Systems.{table-lawful, run-at, run-valid}
-use Rattle.watcher.specs.declared.Ticked.{Ticked}
-use Rattle.watcher.specs.declared.Watch.{Watch}
-use Rattle.watcher.specs.Watch.{phasesOf, watchOf, startWatch}
-use Rattle.watcher.specs.Answer.{firstNumber, answered, refusedWith, movedOn, tickAnswer}
+use Rattle.pass.specs.declared.Ticked.{Ticked}
+use Rattle.pass.specs.declared.Watch.{Watch}
+use Rattle.pass.specs.Watch.{phasesOf, watchOf, startWatch}
+use Rattle.pass.specs.Answer.{firstNumber, answered, refusedWith, movedOn, tickAnswer}
 use Rattle.table.specs.further.Numbers.{numberOf, lineOf}
-use Rattle.watcher.proofs.Records.{phases-watch}
-use Rattle.watcher.proofs.Starts.{start-valid, number-is, line-is, refused-is}
+use Rattle.pass.proofs.Records.{phases-watch}
+use Rattle.pass.proofs.Starts.{start-valid, number-is, line-is, refused-is}
 use Rattle.demands.specs.Watching.{recordAfter, CallValid}
 
 module _ (s : ℕ) (rows : List Row) where

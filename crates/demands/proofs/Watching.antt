@@ -26,14 +26,15 @@ use Rattle.step.proofs.Systems.{row-lawful}
 use Rattle.traces.proofs.Runs.{broken-run}
 use Rattle.table.specs.declared.Outcome.the-variants.{Accepted as Taken}
 use Rattle.watcher.specs.declared.Played.{Played}
-use Rattle.watcher.specs.declared.Ticked.{Ticked}
-use Rattle.watcher.specs.declared.Watch.{Watch}
-use Rattle.watcher.specs.Watch.{phasesOf, watchOf, startWatch, countOf, noCounts}
-use Rattle.watcher.specs.Answer.{firstNumber, nothingHappened, tickAnswer}
+use Rattle.pass.specs.declared.Ticked.{Ticked}
+use Rattle.pass.specs.declared.Watch.{Watch}
+use Rattle.pass.specs.Watch.{phasesOf, watchOf, startWatch}
+use Rattle.pass.specs.Answer.{firstNumber, nothingHappened, tickAnswer}
+use Rattle.watcher.specs.Counts.{countOf, noCounts}
 use Rattle.watcher.specs.inner.Tables.{tableTick, tablePlay}
 use Rattle.table.specs.further.Numbers.{numberOf, lineOf}
-use Rattle.watcher.proofs.Records.{watch-phases, phases-watch}
-use Rattle.watcher.proofs.Starts.{start-phase}
+use Rattle.pass.proofs.Records.{watch-phases, phases-watch}
+use Rattle.pass.proofs.Starts.{start-phase}
 use Rattle.demands.specs.Watching.{recordAfter, eventsOver, CallValid}
 use Rattle.demands.proofs.WatchLaws as Laws
 use Rattle.demands.proofs.WatchCalls as Calls

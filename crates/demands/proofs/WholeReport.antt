@@ -15,7 +15,7 @@ use Rattle.text.specs.Lines.{ended, count}
 use Rattle.conditions.specs.Condition.{nameOf, place}
 use Rattle.conditions.specs.inner.Judge.{deep, judge}
 use Rattle.conditions.specs.inner.Reading.{isAt, nameAt, digitAt, reads, conditionOf}
-use Rattle.header.specs.inner.Header.{headerNumber, nameShaped, signalsNumber, signalsAnswer}
+use Rattle.header.specs.inner.Header.{versionAnswer, nameShaped, signalsNumber, signalsAnswer}
 use Rattle.rows.specs.inner.Row.{fieldOf, fieldsOf, numberAmong, rowFields, rowAnswer}
 use Rattle.reader.specs.inner.File.{rowsFrom, rowsAnswer, bodyAnswer, fileAnswer, readAnswer}
 use Rattle.reader.proofs.Accepted.{accepted-file}
@@ -33,7 +33,7 @@ use Rattle.demands.proofs.Starred.{report-trapped}
 pub boards-read : ReadAs (textP ∷ []) (P ∷ []) × ReadAs (textQ ∷ []) (Q ∷ [])
     × ReadAs (textS ∷ []) (S ∷ []) × ReadAs (textDelayed ∷ []) delayed
     × ReadAs (textP ∷ textNotC ∷ []) report
-unfolding readAnswer ended lines fileAnswer headerNumber bodyAnswer split signalsAnswer
+unfolding readAnswer ended lines fileAnswer versionAnswer bodyAnswer split signalsAnswer
     signalsNumber nameShaped nameOf allDistinct rowsAnswer rowsFrom rowAnswer count fieldsOf fieldOf
     numberAmong rowFields boundOf judge deep conditionOf reads digitAt nameAt isAt nameRun place
     sameBytes bitAt setOf every some

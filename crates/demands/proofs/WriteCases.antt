@@ -13,7 +13,7 @@ use Rattle.text.specs.Lines.All.{none, and}
 use Rattle.conditions.specs.Condition.{nameOf, place}
 use Rattle.conditions.specs.inner.Judge.{deep, judge}
 use Rattle.conditions.specs.inner.Reading.{isAt, nameAt, digitAt, reads, conditionOf}
-use Rattle.header.specs.inner.Header.{headerNumber, nameShaped, signalsNumber, signalsAnswer}
+use Rattle.header.specs.inner.Header.{versionAnswer, nameShaped, signalsNumber, signalsAnswer}
 use Rattle.rows.specs.inner.Row.{fieldOf, fieldsOf, numberAmong, rowFields, rowAnswer}
 use Rattle.reader.specs.inner.File.{rowsFrom, rowsAnswer, bodyAnswer, fileAnswer, readAnswer}
 use Rattle.report.specs.File.{literals, conditionText, fileText}
@@ -35,7 +35,7 @@ texts-worked =
 
 -- What `writetable` prints, to the byte.
 pub row-written : writingAnswer (oneRow rowSent) ≡ oneRow rowWritten
-unfolding writingAnswer readAnswer ended lines fileAnswer headerNumber bodyAnswer split
+unfolding writingAnswer readAnswer ended lines fileAnswer versionAnswer bodyAnswer split
     signalsAnswer signalsNumber nameShaped nameOf allDistinct rowsAnswer rowsFrom rowAnswer count
     fieldsOf fieldOf numberAmong rowFields boundOf judge deep conditionOf reads digitAt nameAt isAt
     nameRun place sameBytes bitAt setOf every some fileText conditionText members literals joined
@@ -44,7 +44,7 @@ row-written = refl
 
 pub whole-written : (writingAnswer (fileOf (textP ∷ textNotC ∷ [])) ≡ wholeWritten)
     × (length wholeWritten ≡ 169)
-unfolding writingAnswer readAnswer ended lines fileAnswer headerNumber bodyAnswer split
+unfolding writingAnswer readAnswer ended lines fileAnswer versionAnswer bodyAnswer split
     signalsAnswer signalsNumber nameShaped nameOf allDistinct rowsAnswer rowsFrom rowAnswer count
     fieldsOf fieldOf numberAmong rowFields boundOf judge deep conditionOf reads digitAt nameAt isAt
     nameRun place sameBytes bitAt setOf every some fileText conditionText members literals joined

@@ -7,9 +7,9 @@ use Rattle.table.specs.Valid.{rowsValid}
 use Rattle.table.specs.declared.Row.{Row}
 use Rattle.step.specs.declared.Events.{Events}
 use Rattle.step.specs.Valid.{phasesValid}
-use Rattle.watcher.specs.declared.Watch.{Watch}
-use Rattle.watcher.specs.Watch.{phasesOf}
-use Rattle.watcher.specs.Answer.{tickAnswer}
+use Rattle.pass.specs.declared.Watch.{Watch}
+use Rattle.pass.specs.Watch.{phasesOf}
+use Rattle.pass.specs.Answer.{tickAnswer}
 
 -- The record after one call of the watcher for each letter of a trace.
 unfoldable pub recordAfter : ℕ → List Row → Watch → List ℕ → Watch

@@ -11,8 +11,10 @@ use lib.Seq.{drop-cons, take-all}
 use Rattle.letters.specs.Lists.{every, sameBytes}
 use Rattle.table.specs.Name.{isLowercase}
 use Rattle.text.specs.Words.{PNP, version1}
+use Rattle.text.specs.declared.Version.the-variants.{First}
 use Rattle.header.specs.Header.{isDigit16}
-use Rattle.header.specs.inner.Header.{headerNumber, nameShaped}
+use Rattle.header.specs.inner.Header.{versionAnswer, nameShaped}
+use Rattle.header.specs.declared.VersionRead.the-variants.{Known, Refused}
 use Rattle.text.proofs.Parts.{rest-whole}
 
 regroup : (a b c d : Bool) → (a && (b && (c && (d && true)))) ≡ (a && b && c && d)
@@ -26,12 +28,12 @@ module _ (l : List ℕ) where
   fourDigits = isDigit16 (getD l 4 0) && isDigit16 (getD l 5 0) && isDigit16 (getD l 6 0) &&
       isDigit16 (getD l 7 0)
 
-  pub header-long : (length l ≡ 8 → ⊥) → headerNumber l ≡ 4
-  unfolding headerNumber
+  pub header-long : (length l ≡ 8 → ⊥) → versionAnswer l ≡ Refused 4
+  unfolding versionAnswer
   header-long h = rw (ne-eqb (length l) 8 h)
 
-  pub header-word : sameBytes (take 4 l) PNP ≡ false → headerNumber l ≡ 4
-  unfolding headerNumber
+  pub header-word : sameBytes (take 4 l) PNP ≡ false → versionAnswer l ≡ Refused 4
+  unfolding versionAnswer
   header-word h = rw (h, and-false (eqb (length l) 8))
 
   digits-four : length l ≡ 8 → every isDigit16 (drop 4 l) ≡ fourDigits
@@ -48,8 +50,8 @@ module _ (l : List ℕ) where
       (regroup (isDigit16 (getD l 4 0)) (isDigit16 (getD l 5 0)) (isDigit16 (getD l 6 0))
       (isDigit16 (getD l 7 0)))
 
-  pub header-digits : length l ≡ 8 → fourDigits ≡ false → headerNumber l ≡ 4
-  unfolding headerNumber
+  pub header-digits : length l ≡ 8 → fourDigits ≡ false → versionAnswer l ≡ Refused 4
+  unfolding versionAnswer
   header-digits e h = rw (
     digits-four e,
     h,
@@ -59,8 +61,8 @@ module _ (l : List ℕ) where
 
   pub header-version : length l ≡ 8 → sameBytes (take 4 l) PNP ≡ true → fourDigits ≡ true
       → (b : Bool) → sameBytes (take 4 (take (length l - 4) (drop 4 l))) version1 ≡ b
-      → headerNumber l ≡ cond b 0 5
-  unfolding headerNumber
+      → versionAnswer l ≡ cond b (Known First) (Refused 5)
+  unfolding versionAnswer
   header-version e w d b v =
       let tail : take 4 (take (length l - 4) (drop 4 l)) ≡ drop 4 l =
       ap (take 4) (rest-whole l 4) ∙ take-all 4 (drop 4 l) (rw length-drop (omega arith)) in

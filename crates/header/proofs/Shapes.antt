@@ -14,15 +14,18 @@ use Rattle.letters.proofs.Lists.{sameBytes-refl}
 use Rattle.table.specs.Limits.{mostSignals}
 use Rattle.table.specs.Name.{isLowercase, allDistinct}
 use Rattle.text.specs.Lines.{LF, space, joined, count, All, none, and, Free}
-use Rattle.text.specs.Words.{PNP, version1, signalsWord}
+use Rattle.text.specs.Words.{PNP, version1, versionDigits, signalsWord}
+use Rattle.text.specs.declared.Version.{Version}
+use Rattle.text.specs.declared.Version.the-variants.{First}
 use Rattle.text.specs.inner.Cut.{split}
 use Rattle.text.proofs.Joins.{split-joined, joined-split, joined-free, passing-free}
 use Rattle.conditions.specs.Condition.{IsName, nameOf}
-use Rattle.header.specs.Header.{isDigit16, IsHeader, IsSignals}
-use Rattle.header.specs.Header.{namesFrom}
-use Rattle.header.specs.inner.Header.{headerNumber, nameShaped, signalsNumber, signalsAnswer}
+use Rattle.header.specs.Header.{isDigit16, IsHeader, versionLine, IsSignals, namesFrom}
+use Rattle.header.specs.inner.Header.{versionAnswer, nameShaped, signalsNumber}
+use Rattle.header.specs.inner.Header.{signalsAnswer}
 use Rattle.header.specs.inner.Header.{signalsRefused}
 use Rattle.header.specs.declared.Signals.{Signals}
+use Rattle.header.specs.declared.VersionRead.the-variants.{Known, Refused}
 
 -- Line 1.
 abbrev shaped : List ℕ → Bool
@@ -43,42 +46,47 @@ shaped-header line h =
       digits = and-right (eight && starts) digits h;
     }
 
-module _ (line version : List ℕ) (header : IsHeader line version) where
+module _ (line digits : List ℕ) (header : IsHeader line digits) where
   header-shaped : shaped line ≡ true
   unfolding sameBytes
   header-shaped =
-      let long : length (PNP ++ version) ≡ 8 = length-append PNP version ∙ omega (
+      let long : length (PNP ++ digits) ≡ 8 = length-append PNP digits ∙ omega (
         arith,
         header
             .four,
       ) in
       rw (header .line-is, long, header .digits)
 
-  pub header-first : version ≡ version1 → headerNumber line ≡ 0
-  unfolding headerNumber
-  header-first e =
+  pub header-known : (version : Version) → digits ≡ versionDigits version
+      → versionAnswer line ≡ Known version
+  unfolding versionAnswer
+  header-known First e =
       let same = sameBytes-refl version1 in
       rw (header-shaped, header .line-is, e, same)
 
-  pub header-other : (version ≡ version1 → ⊥) → headerNumber line ≡ 5
-  unfolding headerNumber
-  header-other other = rw (header-shaped, header .line-is, sameBytes-false version version1 other)
+  pub header-other : ((version : Version) → digits ≡ versionDigits version → ⊥)
+      → versionAnswer line ≡ Refused 5
+  unfolding versionAnswer
+  header-other other =
+      rw (header-shaped, header .line-is, sameBytes-false digits version1 (other First))
 
-pub header-none : (line : List ℕ) → ((version : List ℕ) → IsHeader line version → ⊥)
-    → headerNumber line ≡ 4
-unfolding headerNumber
+pub header-none : (line : List ℕ) → ((digits : List ℕ) → IsHeader line digits → ⊥)
+    → versionAnswer line ≡ Refused 4
+unfolding versionAnswer
 header-none line h = go (shaped line) refl
   where
     go : (t : Bool) → shaped line ≡ t
-        → _≡_ {A = ℕ} (cond t (cond (sameBytes (drop 4 line) version1) 0 5) 4) 4
+        → cond t (cond (sameBytes (drop 4 line) version1) (Known First) (Refused 5)) (Refused 4)
+        ≡ Refused 4
     go true e = absurd (h (drop 4 line) (shaped-header line e))
     go false e = refl
 
 -- What line 1 may be.
 pub data Line1 (line : List ℕ) : Type 0 where
-  first : line ≡ PNP ++ version1 → Line1 line
-  other : (version : List ℕ) → IsHeader line version → (version ≡ version1 → ⊥) → Line1 line
-  misshapen : ((version : List ℕ) → IsHeader line version → ⊥) → Line1 line
+  known : (version : Version) → line ≡ versionLine version → Line1 line
+  other : (digits : List ℕ) → IsHeader line digits
+      → ((version : Version) → digits ≡ versionDigits version → ⊥) → Line1 line
+  misshapen : ((digits : List ℕ) → IsHeader line digits → ⊥) → Line1 line
 
 pub line1-found : (line : List ℕ) → Line1 line
 line1-found line = go (shaped line) refl (sameBytes (drop 4 line) version1) refl
@@ -86,17 +94,19 @@ line1-found line = go (shaped line) refl (sameBytes (drop 4 line) version1) refl
     go : (t : Bool) → shaped line ≡ t → (u : Bool) → sameBytes (drop 4 line) version1 ≡ u
         → Line1 line
     go true e true f =
-        first (shaped-header line e .line-is
+        known First (shaped-header line e .line-is
         ∙ ap (_++_ PNP) (sameBytes-true (drop 4 line) version1 f))
-    go true e false f =
-        other (drop 4 line) (shaped-header line e) (λ z. true≢false (sym (ap (λ (v : List ℕ).
-        sameBytes v version1) z ∙ sameBytes-refl version1) ∙ f))
+    go true e false f = other (drop 4 line) (shaped-header line e) differs
+      where
+        differs : (version : Version) → drop 4 line ≡ versionDigits version → ⊥
+        differs First z = true≢false (sym (ap (λ (v : List ℕ). sameBytes v version1) z
+            ∙ sameBytes-refl version1) ∙ f)
     go false e u f =
-        misshapen (λ version h. true≢false (sym (header-shaped line version h) ∙ e))
+        misshapen (λ digits h. true≢false (sym (header-shaped line digits h) ∙ e))
 
-pub header-right : IsHeader (PNP ++ version1) version1
+pub header-right : (version : Version) → IsHeader (versionLine version) (versionDigits version)
 unfolding every
-header-right = record { line-is = refl; four = refl; digits = refl }
+header-right First = record { line-is = refl; four = refl; digits = refl }
 
 -- Names.
 pub shaped-name : (w : List ℕ) → nameShaped w ≡ true → IsName w

@@ -10,7 +10,8 @@ use Rattle.letters.specs.Lists.{every}
 use Rattle.table.specs.Limits.{mostSignals, nameLength}
 use Rattle.table.specs.declared.Name.{Name}
 use Rattle.text.specs.Lines.{space, joined, All}
-use Rattle.text.specs.Words.{PNP, signalsWord}
+use Rattle.text.specs.Words.{PNP, versionDigits, signalsWord}
+use Rattle.text.specs.declared.Version.{Version}
 use Rattle.conditions.specs.Condition.{IsName, nameOf}
 
 -- "Line 1 is `PNP ` and the 16-bit version as four digits 0-9, A-F (base 16): `PNP 0001`."
@@ -21,6 +22,10 @@ pub record IsHeader (line version : List ℕ) : Type 0 where
   pub line-is : line ≡ PNP ++ version
   pub four : length version ≡ 4
   pub digits : every isDigit16 version ≡ true
+
+-- Line 1 of a file of a version that is read.
+abbrev pub versionLine : Version → List ℕ
+versionLine version = PNP ++ versionDigits version
 
 -- "Line 2 is `signals`, then a space and a name for each signal."
 pub record IsSignals (line : List ℕ) (names : List (List ℕ)) : Type 0 where

@@ -3,13 +3,20 @@
 use table::MOST_SIGNALS;
 use table::NAME_CHARS;
 use table::Name;
+use text::Version;
 ghost use mathlib.Core.Path.{_≡_};
 ghost use Rattle.text.specs.Lines.{space};
 ghost use Rattle.text.specs.inner.Cut.{split};
 ghost use Rattle.header.specs.Header.{isDigit16};
-ghost use Rattle.header.specs.inner.Header.{headerNumber, nameShaped, signalsRefused};
+ghost use Rattle.header.specs.inner.Header.{versionAnswer, nameShaped, signalsRefused};
 ghost use Rattle.header.specs.inner.Header.{signalsAnswer};
 ghost use Rattle.header.specs.inner.Gathering.{nameAdded, namesAnswer};
+
+// What line 1 is read as: the version of the file; or its number, 4 or 5.
+pub enum VersionRead {
+    Known(Version),
+    Refused(u8),
+}
 
 // Line 2: its number, or 0; and the names, of which the first `count` are used. Under a number all
 // is 0.
@@ -26,27 +33,27 @@ fn is_digit16(b: u8) -> bool
     (b'0' <= b) & (b <= b'9') | (b'A' <= b) & (b <= b'F')
 }
 
-// Whether line 1 is turned down: 0, 4 or 5.
-pub fn check_header(line: &[u8]) -> u8
-    ensures { λ r. ⌜ r ≡ headerNumber (now (line .entry)) ⌝ }
+// The version that line 1 gives; or 4, then 5.
+pub fn read_version(line: &[u8]) -> VersionRead
+    ensures { λ r. ⌜ r ≡ versionAnswer (now (line .entry)) ⌝ }
 {
     if line.len() != 8 {
-        return 4;
+        return VersionRead::Refused(4);
     }
     if !text::starts_with(line, b"PNP ") {
-        return 4;
+        return VersionRead::Refused(4);
     }
     let shaped = is_digit16(line[4])
         & is_digit16(line[5])
         & is_digit16(line[6])
         & is_digit16(line[7]);
     if !shaped {
-        return 4;
+        return VersionRead::Refused(4);
     }
-    if !text::starts_with(&line[4..], b"0001") {
-        return 5;
+    if text::starts_with(&line[4..], b"0001") {
+        return VersionRead::Known(Version::First);
     }
-    0
+    VersionRead::Refused(5)
 }
 
 // Whether bytes are a name: 1 to 8 letters a-z.

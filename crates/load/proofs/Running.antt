@@ -30,13 +30,13 @@ use Rattle.step.specs.Valid.{phasesValid}
 use Rattle.step.proofs.RowEvents.{events-at, events-beyond}
 use Rattle.step.proofs.Rows.{tick-at, tick-beyond}
 use Rattle.step.proofs.Systems.{run-at, run-beyond, run-length, run-valid}
-use Rattle.watcher.specs.declared.Ticked.{Ticked}
-use Rattle.watcher.specs.declared.Watch.{Watch}
-use Rattle.watcher.specs.Watch.{phasesOf, startWatch}
-use Rattle.watcher.specs.Answer.{answered, movedOn}
+use Rattle.pass.specs.declared.Ticked.{Ticked}
+use Rattle.pass.specs.declared.Watch.{Watch}
+use Rattle.pass.specs.Watch.{phasesOf, startWatch}
+use Rattle.pass.specs.Answer.{answered, movedOn}
 use Rattle.watcher.specs.inner.Tables.{tableTick}
-use Rattle.watcher.proofs.Records.{phases-watch, phase-at}
-use Rattle.watcher.proofs.Starts.{start-valid, start-phase, refused-is}
+use Rattle.pass.proofs.Records.{phases-watch, phase-at}
+use Rattle.pass.proofs.Starts.{start-valid, start-phase, refused-is}
 use Rattle.load.specs.declared.Totals.{Totals}
 use Rattle.load.specs.Load.{nextNumber, numbersFrom, letterOf, loadOf, noTotals}
 use Rattle.load.specs.Load.{totalsOver}

@@ -18,8 +18,8 @@ use Rattle.table.specs.further.Numbers.{numberOf, lineOf}
 use Rattle.table.specs.declared.Outcome.the-variants.{Accepted}
 use Rattle.table.specs.declared.Row.{Row}
 use Rattle.table.specs.declared.Table.{Table}
-use Rattle.watcher.specs.Answer.{answered}
-use Rattle.watcher.proofs.Starts.{number-is, line-is, refused-is}
+use Rattle.pass.specs.Answer.{answered}
+use Rattle.pass.proofs.Starts.{number-is, line-is, refused-is}
 use Rattle.load.specs.declared.Ran.{Ran}
 use Rattle.load.specs.declared.Totals.{Totals}
 use Rattle.load.specs.Load.{numbersFrom, loadOf, totalsOf, noTotals, totalsOver, sumOf}

@@ -16,7 +16,7 @@ use Rattle.traces.specs.Trace.{run}
 use Rattle.step.specs.declared.Phase.the-variants.{Waiting}
 use Rattle.step.specs.Events.{traceEvents, Event, timesOf, isOpen}
 use Rattle.step.specs.Tick.{startPhases, rowSystem}
-use Rattle.watcher.specs.Answer.{answered}
+use Rattle.pass.specs.Answer.{answered}
 use Rattle.load.specs.declared.Ran.{Ran}
 use Rattle.load.specs.declared.Sums.{Sums}
 use Rattle.load.specs.declared.Totals.{Totals}

@@ -1,10 +1,10 @@
 // Totals, tick by tick, and their sums, row by row. specs/inner/Tally.antt follows this code.
 use crate::Sums;
 use crate::Totals;
+use pass::Watch;
 use step::Events;
 use step::Phase;
 use table::MOST_ROWS;
-use watcher::Watch;
 ghost use Prim.Native.Nat.{_+_, _^_, _<_};
 ghost use mathlib.Core.Path.{_≡_};
 ghost use Rattle.letters.specs.Letter.{bit};

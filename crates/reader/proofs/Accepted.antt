@@ -34,17 +34,19 @@ right-decided bytes r (is3 before last e other few) =
     turned 3 0 (omega arith) (omega arith) (omega arith) refl
 right-decided bytes r (is4 l h) = turned 4 1 (omega arith) (omega arith) (omega arith) refl
 right-decided bytes r (is5 l h other) = turned 5 1 (omega arith) (omega arith) (omega arith) refl
-right-decided bytes r (is6missing l) = turned 6 2 (omega arith) (omega arith) (omega arith) refl
-right-decided bytes r (is6 l h) = turned 6 2 (omega arith) (omega arith) (omega arith) refl
+right-decided bytes r (is6missing version l) =
+    turned 6 2 (omega arith) (omega arith) (omega arith) refl
+right-decided bytes r (is6 version l h) = turned 6 2 (omega arith) (omega arith) (omega arith) refl
 right-decided bytes r (is7 n many) = turned 7 2 (omega arith) (omega arith) (omega arith) refl
 right-decided bytes r (is8 n few twice) = turned 8 2 (omega arith) (omega arith) (omega arith) refl
-right-decided bytes r (is9 line rest b are full) =
+right-decided bytes r (is9 line rest b same are full) =
     turned 9 (mostRows + 3) (omega arith) (omega arith) (omega arith) refl
-right-decided bytes r (isFault {names} {rules} {number} line rest b are low f) =
-    let among = fault-among (map nameOf names) (width (length names)) line number f in
-    turned number (length rules + 3) (omega (arith, among .0)) (omega (arith, among .1))
+right-decided bytes r (isFault {file} {before} {number} line rest b same are low f) =
+    let among = fault-among (map nameOf (file .names)) (width (length (file .names)))
+    (file .version) line number f in
+    turned number (length before + 3) (omega (arith, among .0)) (omega (arith, among .1))
     (omega arith) refl
-right-decided bytes r (is16 b) = turned 16 3 (omega arith) (omega arith) (omega arith) refl
+right-decided bytes r (is16 b empty) = turned 16 3 (omega arith) (omega arith) (omega arith) refl
 right-decided bytes r (isTable {table} f) = taken table f refl
 
 pub read-decided : (bytes : List ℕ) → Decided bytes (readAnswer bytes)

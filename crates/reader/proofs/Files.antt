@@ -24,13 +24,15 @@ use Rattle.table.proofs.Laws.{rowsValid-rows, tableValid-rows, tableValid-names
 use Rattle.table.proofs.Laws.{tableValid-signals, tableValid-unused}
 use Rattle.text.specs.Lines.{ended, joined, count, LF, space, Free, All, none as all-none}
 use Rattle.text.specs.Lines.{and as all-and}
-use Rattle.text.specs.Words.{PNP, version1, signalsWord}
+use Rattle.text.specs.Words.{signalsWord}
+use Rattle.text.specs.declared.Version.the-variants.{First}
 use Rattle.conditions.specs.Condition.{nameOf, IsName}
-use Rattle.header.specs.Header.{noName, namesFrom, IsSignals}
+use Rattle.header.specs.Header.{versionLine, noName, namesFrom, IsSignals}
 use Rattle.header.proofs.Shapes.{signals-free}
 use Rattle.rows.proofs.Rules.{row-free}
 use Rattle.reader.specs.Reading.{zeroRow, tableFrom}
-use Rattle.reader.specs.Grammar.{none, and, AreLines, AreRows, IsFile}
+use Rattle.reader.specs.Grammar.{none, and, AreLines, FileLines, AreRows, IsFile}
+use Rattle.reader.specs.Grammar.{ofLines}
 use Rattle.reader.specs.Sized.{Sized}
 use Rattle.reader.proofs.PlainNames.{wordOf, Eight, words-right, words-names, names-unused}
 use Rattle.reader.proofs.PlainNames.{zeros-after}
@@ -68,6 +70,19 @@ rows-unused [] six h = refl
 rows-unused (row ∷ rows) six h =
     ap₂ _∷_ (row-unused row (six 0 (omega arith)) (and-left (rowUnused row) _ h))
     (rows-unused rows (λ i g. six (suc i) (omega arith)) (and-right (rowUnused row) _ h))
+
+-- Rows have no LF.
+rows-apart : (file : FileLines) {rules : List (List ℕ)} {rows : List Row}
+    → AreRows file rules rows → Free LF rules
+rows-apart file none = all-none
+rows-apart file (and {a} {b} h more) =
+    all-and
+    (row-free (map nameOf (file .names)) (width (length (file .names))) (file .version) a b h)
+    (rows-apart file more)
+
+-- A file has at most so many bytes.
+pub file-few : {bytes : List ℕ} {table : Table} → IsFile bytes table → length bytes ≤ mostBytes
+file-few (ofLines f) = f .header .has-names .lines .few
 
 module _ (table : Table) (sized : Sized table) (fits : tableValid table ≡ true) where
   abbrev s : ℕ
@@ -162,9 +177,6 @@ module _ (table : Table) (sized : Sized table) (fits : tableValid table ≡ true
       }
 
   -- Its names, and lines that are rows.
-  abbrev header : List ℕ
-  header = PNP ++ version1
-
   abbrev pub line2 : List ℕ
   line2 = joined space (signalsWord ∷ words)
 
@@ -175,30 +187,28 @@ module _ (table : Table) (sized : Sized table) (fits : tableValid table ≡ true
     named = words-are;
   }
 
-  rows-apart : {rules : List (List ℕ)} {rows : List Row} → AreRows words rules rows → Free LF rules
-  rows-apart none = all-none
-  rows-apart (and {a} {b} h more) =
-      all-and (row-free (map nameOf words) (width (length words)) a b h) (rows-apart more)
+  abbrev pub linesOf : List (List ℕ) → FileLines
+  linesOf rules = record { version = First; names = words; rules = rules }
 
-  module _ {rules : List (List ℕ)} {rows : List Row} (are : AreRows words rules rows)
+  module _ {rules : List (List ℕ)} {rows : List Row} (are : AreRows (linesOf rules) rules rows)
       (many : length rows ≡ table .count) where
     abbrev bytesOf : List ℕ
-    bytesOf = ended (header ∷ line2 ∷ rules)
+    bytesOf = ended (versionLine First ∷ line2 ∷ rules)
 
-    lines-are : length bytesOf ≤ mostBytes → AreLines bytesOf (header ∷ line2 ∷ rules)
+    lines-are : length bytesOf ≤ mostBytes → AreLines bytesOf (versionLine First ∷ line2 ∷ rules)
     unfolding count
     lines-are few = record {
       bytes-are = refl;
-      apart = all-and refl (all-and (signals-free line2 words signals-are) (rows-apart are));
+      apart = all-and refl
+          (all-and (signals-free line2 words signals-are) (rows-apart (linesOf rules) are));
       some = omega arith;
       few = few;
     }
 
     pub file-is : length bytesOf ≤ mostBytes
         → IsFile bytesOf (tableFrom (length words) (namesFrom words) rows)
-    file-is few = record {
-      names = words;
-      rules = rules;
+    file-is few = ofLines (record {
+      file = linesOf rules;
       rows = rows;
       header = record {
         has-names = record { line2 = line2; lines = lines-are few; signals = signals-are };
@@ -209,4 +219,4 @@ module _ (table : Table) (sized : Sized table) (fits : tableValid table ≡ true
       rows-some = omega (arith, tableValid-count table fits);
       rows-few = omega (arith, tableValid-count table fits);
       table-is = refl;
-    }
+    })

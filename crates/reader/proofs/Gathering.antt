@@ -14,6 +14,7 @@ use Rattle.table.specs.declared.Outcome.the-variants.{Accepted}
 use Rattle.table.specs.declared.Name.{Name}
 use Rattle.table.specs.declared.Row.{Row}
 use Rattle.text.specs.Lines.{LF}
+use Rattle.text.specs.declared.Version.{Version}
 use Rattle.text.specs.inner.Cut.{lines, front}
 use Rattle.text.proofs.Joins.{lines-cons}
 use Rattle.header.proofs.SignalLaws.{added-few, length-none}
@@ -77,12 +78,12 @@ after-snoc : (rows : List Row) (row : Row) (rest : Rows)
 after-snoc rows row (rowsRead more) = ap rowsRead (sym (append-assoc rows (row ∷ []) more))
 after-snoc rows row (fault number line) = refl
 
-module _ (names : List Name) (signals : ℕ) (rest : List ℕ) where
+module _ (names : List Name) (signals : ℕ) (version : Version) (rest : List ℕ) where
   -- What holds when n rows have been read, up to the place `at`.
   pub record Gathering (reads : List RowRead) (sets bounds : List (List ℕ)) (n at : ℕ) : Type 0
     where
-      pub rows : rowsFrom names signals 0 (lines rest)
-          ≡ afterRows (map rowOf reads) (rowsFrom names signals n (lines (drop at rest)))
+      pub rows : rowsFrom names signals version 0 (lines rest)
+          ≡ afterRows (map rowOf reads) (rowsFrom names signals version n (lines (drop at rest)))
       pub many : length reads ≡ n
       pub few : n ≤ mostRows
       pub sets-kept : sets ≡ setsOf reads
@@ -90,7 +91,7 @@ module _ (names : List Name) (signals : ℕ) (rest : List ℕ) where
 
   pub gathering-starts : Gathering [] (replicate mostRows noSets) (replicate mostRows noSets) 0 0
   gathering-starts = record {
-    rows = same (rowsFrom names signals 0 (lines rest));
+    rows = same (rowsFrom names signals version 0 (lines rest));
     many = refl;
     few = omega arith;
     sets-kept = refl;
@@ -107,23 +108,23 @@ module _ (names : List Name) (signals : ℕ) (rest : List ℕ) where
     line = front LF (drop at rest)
 
     abbrev read : RowRead
-    read = rowAnswer (take signals names) (width signals) line
+    read = rowAnswer (take signals names) (width signals) version line
 
     -- the line that a turn looks at
-    turn : at < length rest → rowsFrom names signals n (lines (drop at rest))
+    turn : at < length rest → rowsFrom names signals version n (lines (drop at rest))
         ≡ cond (ltb n mostRows) (cond (eqb (read .number) 0)
-        (afterRow (rowOf read) (rowsFrom names signals (n + 1)
+        (afterRow (rowOf read) (rowsFrom names signals version (n + 1)
         (lines (drop (at + length line + 1) rest)))) (fault (read .number) (n + 3)))
         (fault 9 (n + 3))
     unfolding rowsFrom
-    turn h = ap (rowsFrom names signals n) (lines-next rest at h)
+    turn h = ap (rowsFrom names signals version n) (lines-next rest at h)
 
     pub gathering-ninth : at < length rest → mostRows ≤ n
-        → rowsFrom names signals 0 (lines rest) ≡ fault 9 (n + 3)
+        → rowsFrom names signals version 0 (lines rest) ≡ fault 9 (n + 3)
     gathering-ninth h k = g .rows ∙ rw (turn h, le-ltb n mostRows k)
 
     pub gathering-fault : at < length rest → n < mostRows → (read .number ≡ 0 → ⊥)
-        → rowsFrom names signals 0 (lines rest) ≡ fault (read .number) (n + 3)
+        → rowsFrom names signals version 0 (lines rest) ≡ fault (read .number) (n + 3)
     gathering-fault h k e = g .rows ∙ rw (turn h, lt-ltb n mostRows k, ne-eqb (read .number) 0 e)
 
     pub gathering-next : at < length rest → n < mostRows → read .number ≡ 0
@@ -141,7 +142,7 @@ module _ (names : List Name) (signals : ℕ) (rest : List ℕ) where
     }
       where
         later : Rows
-        later = rowsFrom names signals (n + 1) (lines (drop (at + length line + 1) rest))
+        later = rowsFrom names signals version (n + 1) (lines (drop (at + length line + 1) rest))
 
         kept : (f : RowRead → List ℕ) (old : List (List ℕ))
             → old ≡ map f reads ++ replicate (mostRows - length reads) noSets
@@ -166,7 +167,7 @@ module _ (names : List Name) (signals : ℕ) (rest : List ℕ) where
 
     -- no line is left
     pub gathering-ends : length rest ≤ at
-        → rowsFrom names signals 0 (lines rest) ≡ rowsRead (map rowOf reads)
+        → rowsFrom names signals version 0 (lines rest) ≡ rowsRead (map rowOf reads)
     unfolding rowsFrom
     gathering-ends h =
         g .rows ∙ rw (lines-end rest at h) (ap rowsRead (append-nil (map rowOf reads)))
@@ -178,26 +179,26 @@ module _ (names : List Name) (signals : ℕ) (rest : List ℕ) where
         (gathered-rows reads (mostRows - length reads))
 
   -- There is a row.
-  pub rows-some : 0 < length rest → rowsAnswer names signals (lines rest)
-      ≡ rowsReading names signals (rowsFrom names signals 0 (lines rest))
+  pub rows-some : 0 < length rest → rowsAnswer names signals version (lines rest)
+      ≡ rowsReading names signals version (rowsFrom names signals version 0 (lines rest))
   unfolding rowsAnswer
   rows-some h = rw (lines-cons rest h)
 
   -- What the lines give, by what their rows come to.
-  pub rows-none : length rest ≡ 0 → rowsAnswer names signals (lines rest) ≡ refusedFile 16 3
+  pub rows-none : length rest ≡ 0 → rowsAnswer names signals version (lines rest) ≡ refusedFile 16 3
   unfolding rowsAnswer lines
   rows-none e = rw (length-none rest e)
 
   pub rows-fault : 0 < length rest → (number line : ℕ)
-      → rowsFrom names signals 0 (lines rest) ≡ fault number line
-      → rowsAnswer names signals (lines rest) ≡ refusedFile number line
-  rows-fault h number line e = rows-some h ∙ ap (rowsReading names signals) e
+      → rowsFrom names signals version 0 (lines rest) ≡ fault number line
+      → rowsAnswer names signals version (lines rest) ≡ refusedFile number line
+  rows-fault h number line e = rows-some h ∙ ap (rowsReading names signals version) e
 
   pub rows-accepted : 0 < length rest → (rows : List Row)
-      → rowsFrom names signals 0 (lines rest) ≡ rowsRead rows
-      → rowsAnswer names signals (lines rest)
+      → rowsFrom names signals version 0 (lines rest) ≡ rowsRead rows
+      → rowsAnswer names signals version (lines rest)
       ≡ record { outcome = Accepted; table = tableFrom signals names rows }
-  rows-accepted h rows e = rows-some h ∙ ap (rowsReading names signals) e
+  rows-accepted h rows e = rows-some h ∙ ap (rowsReading names signals version) e
 
 -- The row of the sets and bounds at a place. When every place is filled, they are those gathered.
 abbrev pub rowAt : List (List ℕ) → List (List ℕ) → ℕ → Row

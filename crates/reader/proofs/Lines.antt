@@ -10,16 +10,18 @@ use lib.Dec.{eqb}
 use lib.ListN.{length, getD, take, drop, length-drop, drop-of-length-le}
 use lib.Seq.{drop-drop}
 use Rattle.text.specs.Lines.{LF, space, count}
+use Rattle.text.specs.declared.Version.{Version}
 use Rattle.text.specs.inner.Cut.{lines, split, front, after}
 use Rattle.text.proofs.Joins.{lines-cons}
 use Rattle.text.proofs.Splits.{front-whole, after-drop}
 use Rattle.text.proofs.Parts.{rest-whole}
 use Rattle.header.proofs.SignalLaws.{length-none}
 use Rattle.header.specs.declared.Signals.{Signals}
+use Rattle.header.specs.declared.VersionRead.{VersionRead}
 use Rattle.reader.specs.Reading.{refusedFile}
-use Rattle.reader.specs.inner.File.{rowsAnswer, afterSignals, bodyAnswer, fileAnswer}
-use Rattle.reader.specs.inner.File.{readAnswer}
-use Rattle.header.specs.inner.Header.{headerNumber, signalsAnswer}
+use Rattle.reader.specs.inner.File.{rowsAnswer, afterSignals, bodyAnswer, afterVersion}
+use Rattle.reader.specs.inner.File.{fileAnswer, readAnswer}
+use Rattle.header.specs.inner.Header.{versionAnswer, signalsAnswer}
 
 after-none : (xs : List ℕ) → count LF xs ≡ 0 → after LF xs ≡ []
 unfolding count after
@@ -88,32 +90,33 @@ module _ (rest : List ℕ) where
   abbrev others : List ℕ
   others = drop (length first + 1) rest
 
-  pub body-none : length rest ≡ 0 → bodyAnswer (lines rest) ≡ refusedFile 6 2
-  unfolding bodyAnswer lines
-  body-none e = rw (length-none rest e)
+  module _ (version : Version) where
+    pub body-none : length rest ≡ 0 → bodyAnswer version (lines rest) ≡ refusedFile 6 2
+    unfolding bodyAnswer lines
+    body-none e = rw (length-none rest e)
 
-  body-first : (length rest ≡ 0 → ⊥) → bodyAnswer (lines rest)
-      ≡ afterSignals (signalsAnswer (split space first)) (lines others)
-  unfolding bodyAnswer
-  body-first h = rw (lines-first rest (omega arith))
+    body-first : (length rest ≡ 0 → ⊥) → bodyAnswer version (lines rest)
+        ≡ afterSignals version (signalsAnswer (split space first)) (lines others)
+    unfolding bodyAnswer
+    body-first h = rw (lines-first rest (omega arith))
 
-  pub body-refused : (length rest ≡ 0 → ⊥) → (got : Signals)
-      → got ≡ signalsAnswer (split space first) → (got .number ≡ 0 → ⊥)
-      → bodyAnswer (lines rest) ≡ refusedFile (got .number) 2
-  body-refused h got e other =
-      body-first h ∙ ap (λ (r : Signals). afterSignals r (lines others)) (sym e)
-      ∙ rw (ne-eqb (got .number) 0 other)
+    pub body-refused : (length rest ≡ 0 → ⊥) → (got : Signals)
+        → got ≡ signalsAnswer (split space first) → (got .number ≡ 0 → ⊥)
+        → bodyAnswer version (lines rest) ≡ refusedFile (got .number) 2
+    body-refused h got e other =
+        body-first h ∙ ap (λ (r : Signals). afterSignals version r (lines others)) (sym e)
+        ∙ rw (ne-eqb (got .number) 0 other)
 
-  pub body-rows : (length rest ≡ 0 → ⊥) → (got : Signals)
-      → got ≡ signalsAnswer (split space first) → got .number ≡ 0
-      → bodyAnswer (lines rest) ≡ rowsAnswer (got .names) (got .count) (lines others)
-  body-rows h got e same =
-      body-first h ∙ ap (λ (r : Signals). afterSignals r (lines others)) (sym e)
-      ∙ rw (eq-eqb (got .number) 0 same)
+    pub body-rows : (length rest ≡ 0 → ⊥) → (got : Signals)
+        → got ≡ signalsAnswer (split space first) → got .number ≡ 0
+        → bodyAnswer version (lines rest)
+        ≡ rowsAnswer (got .names) (got .count) version (lines others)
+    body-rows h got e same =
+        body-first h ∙ ap (λ (r : Signals). afterSignals version r (lines others)) (sym e)
+        ∙ rw (eq-eqb (got .number) 0 same)
 
-  file-first : (length rest ≡ 0 → ⊥) → fileAnswer (lines rest)
-      ≡ cond (eqb (headerNumber first) 0) (bodyAnswer (lines others))
-      (refusedFile (headerNumber first) 1)
+  file-first : (length rest ≡ 0 → ⊥)
+      → fileAnswer (lines rest) ≡ afterVersion (versionAnswer first) (lines others)
   unfolding fileAnswer
   file-first h = rw (lines-first rest (omega arith))
 
@@ -145,13 +148,9 @@ module _ (rest : List ℕ) where
           eq-eqb (getD rest (length rest - 1) 0) LF same,
         )
 
-    pub file-refused : getD rest (length rest - 1) 0 ≡ LF → (number : ℕ)
-        → number ≡ headerNumber first → (number ≡ 0 → ⊥)
-        → readAnswer rest ≡ refusedFile number 1
-    file-refused same number e other =
-        read-lines same ∙ file-first h ∙ rw (sym e, ne-eqb number 0 other)
-
-    pub file-body : getD rest (length rest - 1) 0 ≡ LF → (number : ℕ)
-        → number ≡ headerNumber first → number ≡ 0 → readAnswer rest ≡ bodyAnswer (lines others)
-    file-body same number e is =
-        read-lines same ∙ file-first h ∙ rw (sym e, eq-eqb number 0 is)
+    pub file-read : getD rest (length rest - 1) 0 ≡ LF
+        → (got : VersionRead) → got ≡ versionAnswer first
+        → readAnswer rest ≡ afterVersion got (lines others)
+    file-read same got e =
+        read-lines same ∙ file-first h
+        ∙ ap (λ (r : VersionRead). afterVersion r (lines others)) (sym e)

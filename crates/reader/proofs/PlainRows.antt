@@ -15,6 +15,7 @@ use Rattle.table.specs.declared.Row.{Row}
 use Rattle.table.proofs.Laws.{RowBounds, rowValid-bounds}
 use Rattle.text.specs.Lines.{ended, count, comma, All, none as all-none, and as all-and}
 use Rattle.text.specs.Words.{falseSign}
+use Rattle.text.specs.declared.Version.{Version}
 use Rattle.text.proofs.Joins.{joined-length}
 use Rattle.conditions.specs.Condition.{oneTerm, oneFactor, never, text, holdsAt, unknown}
 use Rattle.conditions.specs.Judge.{IsCondition}
@@ -68,10 +69,10 @@ bare-bounded row b = record {
   action-most = b .action-most;
 }
 
-bare-row : (names : List Name) (n : ℕ) (row : Row) → RowBounds row
-    → IsRow names n (lineOf row) (bare row)
-bare-row names n row b =
-    line-row zeroText names n (bare row) refl (six-zeros _ (zero-condition names n))
+bare-row : (names : List Name) (n : ℕ) (version : Version) (row : Row) → RowBounds row
+    → IsRow names n version (lineOf row) (bare row)
+bare-row names n version row b =
+    line-row zeroText names n version (bare row) refl (six-zeros _ (zero-condition names n))
     (bare-bounded row b)
 
 line-length : (row : Row) → RowBounds row → length (lineOf row) ≤ 41
@@ -85,13 +86,14 @@ line-length row b =
 
 -- Rows in a list.
 module _ (s : ℕ) where
-  pub lines-rows : (names : List Name) (n : ℕ) (rows : List Row) → every (rowValid s) rows ≡ true
-      → Each (IsRow names n) (map lineOf rows) (map bare rows)
+  pub lines-rows : (names : List Name) (n : ℕ) (version : Version) (rows : List Row)
+      → every (rowValid s) rows ≡ true
+      → Each (IsRow names n version) (map lineOf rows) (map bare rows)
   unfolding every
-  lines-rows names n [] h = none
-  lines-rows names n (row ∷ rows) h =
-      and (bare-row names n row (rowValid-bounds s row (and-left (rowValid s row) _ h)))
-      (lines-rows names n rows (and-right (rowValid s row) _ h))
+  lines-rows names n version [] h = none
+  lines-rows names n version (row ∷ rows) h =
+      and (bare-row names n version row (rowValid-bounds s row (and-left (rowValid s row) _ h)))
+      (lines-rows names n version rows (and-right (rowValid s row) _ h))
 
   pub lines-length : (rows : List Row) → every (rowValid s) rows ≡ true
       → length (ended (map lineOf rows)) ≤ 42 * length rows

@@ -13,6 +13,7 @@ use Rattle.table.proofs.Laws.{RowBounds}
 use Rattle.text.specs.Bounds.{decimal}
 use Rattle.text.specs.Lines.{joined, comma, All, none as all-none, and as all-and}
 use Rattle.text.specs.Words.{ruleWord}
+use Rattle.text.specs.declared.Version.{Version}
 use Rattle.text.proofs.Decimals.{decimal-length}
 use Rattle.conditions.specs.Judge.{IsCondition}
 use Rattle.rows.specs.Row.{FieldKind, aCondition, aBound, fieldKinds, rowValues, IsField}
@@ -90,10 +91,10 @@ module _ (condition : ℕ → List ℕ) where
         right aCondition v h = h
         right aBound v h = record { small = h; bytes = refl }
 
-    pub line-row : (row : Row) → length (row .sets) ≡ conditions → All Means (row .sets)
-        → RowBounds row → IsRow names n (rowLine row) row
+    pub line-row : (version : Version) (row : Row) → length (row .sets) ≡ conditions
+        → All Means (row .sets) → RowBounds row → IsRow names n version (rowLine row) row
     unfolding some
-    line-row row six means b =
+    line-row version row six means b =
         let values = values-right Means row six means b in
         let right = texts-right values in
         record {

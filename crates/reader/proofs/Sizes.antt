@@ -13,11 +13,12 @@ use Rattle.table.specs.Row.{noRow}
 use Rattle.table.specs.declared.Name.{Name}
 use Rattle.table.specs.declared.Row.{Row}
 use Rattle.table.specs.declared.Table.{Table}
+use Rattle.text.specs.declared.Version.{Version}
 use Rattle.conditions.specs.Condition.{nameOf}
 use Rattle.header.specs.Header.{noName, namesFrom}
 use Rattle.rows.specs.Row.{IsRow}
 use Rattle.rows.proofs.Rules.{row-same}
-use Rattle.reader.specs.Grammar.{Each, none, and, IsFile}
+use Rattle.reader.specs.Grammar.{Each, none, and, HasRows, IsFile, ofLines}
 use Rattle.reader.specs.Reading.{zeroRow}
 use Rattle.reader.specs.Sized.{Sized}
 use Rattle.reader.proofs.Files.{Six}
@@ -28,16 +29,17 @@ name-places w =
     length-take-le nameLength (w ++ replicate nameLength 0)
     (rw length-append (omega (arith, length-replicate {A = ℕ} nameLength 0)))
 
-rows-six : {names : List Name} {n : ℕ} {rules : List (List ℕ)} {rows : List Row}
-    → Each (IsRow names n) rules rows → Six rows
+rows-six : {names : List Name} {n : ℕ} {version : Version} {rules : List (List ℕ)}
+    {rows : List Row}
+    → Each (IsRow names n version) rules rows → Six rows
 rows-six none i low = absurd (omega arith)
 rows-six {names} {n} (and {a} {b} h more) zero low =
     sym (ap (λ (r : Row). length (r .sets)) (row-same names n a b (h .has)))
 rows-six (and h more) (suc i) low = rows-six more i (omega arith)
 
-module _ (bytes : List ℕ) (t : Table) (f : IsFile bytes t) where
+module _ (bytes : List ℕ) (t : Table) (f : HasRows bytes t) where
   abbrev names : List (List ℕ)
-  names = f .names
+  names = f .file .names
 
   abbrev rows : List Row
   rows = f .rows
@@ -67,8 +69,8 @@ module _ (bytes : List ℕ) (t : Table) (f : IsFile bytes t) where
             getD-replicate (mostRows - length rows) k zeroRow noRow (omega arith),
           )
 
-  pub file-sized : Sized t
-  file-sized = record {
+  lines-sized : Sized t
+  lines-sized = record {
     names = ap (λ (t : Table). length (t .names)) (f .table-is)
         ∙ padded-length nameOf noName mostSignals names (f .header .few);
     chars = λ i low. ap (λ (t : Table). length (getD (t .names) i noName .chars)) (f .table-is)
@@ -82,3 +84,6 @@ module _ (bytes : List ℕ) (t : Table) (f : IsFile bytes t) where
     sets = λ i low. ap (λ (t : Table). length (getD (t .rows) i noRow .sets)) (f .table-is)
         ∙ sets-six i low;
   }
+
+pub file-sized : (bytes : List ℕ) (t : Table) → IsFile bytes t → Sized t
+file-sized bytes t (ofLines f) = lines-sized bytes t f

@@ -11,7 +11,6 @@ use lib.Pow.{pow-mono}
 use lib.Seq.{take-at, drop-at}
 use Rattle.letters.specs.Letter.{letters, width, setValid}
 use Rattle.letters.specs.Lists.{every}
-use Rattle.letters.proofs.Lists.{within-true}
 use Rattle.letters.proofs.Sets.{setOf-lt}
 use Rattle.table.specs.Limits.{mostSignals, mostRows, mostTicks}
 use Rattle.table.specs.Row.{rowValid, rowUnused}
@@ -20,13 +19,15 @@ use Rattle.table.specs.Valid.{rowsValid, namesValid, tableValid}
 use Rattle.table.specs.declared.Name.{Name}
 use Rattle.table.specs.declared.Row.{Row}
 use Rattle.table.specs.declared.Table.{Table}
+use Rattle.table.proofs.Laws.{counts-right}
 use Rattle.conditions.specs.Condition.{IsName, nameOf, holdsAt}
 use Rattle.conditions.proofs.Places.{nameOf-valid}
 use Rattle.header.specs.Header.{noName, namesFrom}
 use Rattle.reader.specs.Reading.{zeroRow}
-use Rattle.reader.specs.Grammar.{Each, none, and, IsFile}
+use Rattle.reader.specs.Grammar.{Each, none, and, HasRows, IsFile, ofLines}
 use Rattle.reader.proofs.Only.{names-taken}
 use Rattle.text.specs.Lines.{All, none as all-none, and as all-and}
+use Rattle.text.specs.declared.Version.{Version}
 use Rattle.conditions.specs.Judge.{IsCondition}
 use Rattle.rows.specs.Row.{FieldKind, aCondition, aBound, fieldKinds, IsField, AreFields}
 use Rattle.rows.specs.Row.{none as nothing, and as also, rowValues, Ordered, IsRow}
@@ -104,51 +105,55 @@ module _ (names : List Name) (s : ℕ) where
         held-at held 9 (omega arith),
       )
 
-  row-valid : (line : List ℕ) (row : Row) → IsRow names (width s) line row → rowValid s row ≡ true
+  row-valid : {version : Version} (line : List ℕ) (row : Row)
+      → IsRow names (width s) version line row → rowValid s row ≡ true
   row-valid line row r =
       let same = row-same names (width s) line row (r .has) in
       subst (λ (r : Row). rowValid s r ≡ true) same
       (values-fit (rowValues row) (fields-held (r .has .right)) (subst Ordered (sym same)
       (r .ordered)))
 
-  rows-valid : (rules : List (List ℕ)) (rows : List Row) → Each (IsRow names (width s)) rules rows
-      → every (rowValid s) rows ≡ true
+  rows-valid : {version : Version} (rules : List (List ℕ)) (rows : List Row)
+      → Each (IsRow names (width s) version) rules rows → every (rowValid s) rows ≡ true
   unfolding every
   rows-valid rules rows none = refl
   rows-valid rules rows (and {a} {b} {l} {m} r more) = rw (row-valid a b r) (rows-valid l m more)
 
-module _ (bytes : List ℕ) (t : Table) (f : IsFile bytes t) where
+module _ (bytes : List ℕ) (t : Table) (f : HasRows bytes t) where
   abbrev s : ℕ
-  s = length (f .names)
+  s = length (f .file .names)
 
   abbrev known : List Name
-  known = map nameOf (f .names)
+  known = map nameOf (f .file .names)
 
-  names-are-valid : namesValid s (namesFrom (f .names)) ≡ true
+  names-are-valid : namesValid s (namesFrom (f .file .names)) ≡ true
   unfolding namesValid
   names-are-valid =
       let free = replicate (mostSignals - s) noName in
       rw (
-        names-taken (f .names),
+        names-taken (f .file .names),
         drop-at known free s
-            (length-map (f .names) nameOf),
-        names-valid (f .names) (f .header .has-names .signals .named),
+            (length-map (f .file .names) nameOf),
+        names-valid (f .file .names) (f .header .has-names .signals .named),
         f .header .differ,
       )
       (every-same nameUnused noName no-name (mostSignals - s))
 
-  pub file-valid : tableValid t ≡ true
+  lines-valid : tableValid t ≡ true
   unfolding tableValid rowsValid
-  file-valid =
+  lines-valid =
       let many = length (f .rows) in
       let free = replicate (mostRows - many) zeroRow in
       rw (
         f .table-is,
         take-at (f .rows) free many refl,
         drop-at (f .rows) free many refl,
-        within-true 1 mostRows many (f .rows-some) (f .rows-few),
-        within-true 1 mostSignals s (f .header .has-names .signals .some) (f .header .few),
-        rows-valid known s (f .rules) (f .rows) (f .rows-are),
+        counts-right s many (f .header .has-names .signals .some) (f .header .few) (f .rows-some)
+            (f .rows-few),
+        rows-valid known s (f .file .rules) (f .rows) (f .rows-are),
         names-are-valid,
       )
       (every-same rowUnused zeroRow zero-row (mostRows - many))
+
+pub file-valid : (bytes : List ℕ) (t : Table) → IsFile bytes t → tableValid t ≡ true
+file-valid bytes t (ofLines f) = lines-valid bytes t f

@@ -5,7 +5,7 @@
 use Prim.Native.Nat.{ℕ, _≤_}
 use native.Mathlib.Omega.{arith}
 use mathlib.Core.Bool.{true}
-use mathlib.Core.List.{List, _∷_, _++_, map}
+use mathlib.Core.List.{List, _∷_, map}
 use mathlib.Core.Path.{_≡_, refl, _∙_}
 use lib.ListN.{length, length-append, length-map}
 use lib.Seq.{take-at}
@@ -16,10 +16,11 @@ use Rattle.table.specs.declared.Row.{Row}
 use Rattle.table.specs.declared.Table.{Table}
 use Rattle.table.proofs.Laws.{tableValid-count, tableValid-signals}
 use Rattle.text.specs.Lines.{ended, space, All, none as all-none, and as all-and}
-use Rattle.text.specs.Words.{PNP, version1, signalsWord}
+use Rattle.text.specs.Words.{signalsWord}
+use Rattle.text.specs.declared.Version.the-variants.{First}
 use Rattle.text.proofs.Joins.{joined-length}
 use Rattle.conditions.specs.Condition.{nameOf, IsName}
-use Rattle.header.specs.Header.{namesFrom}
+use Rattle.header.specs.Header.{versionLine, namesFrom}
 use Rattle.reader.specs.Reading.{tableFrom}
 use Rattle.reader.specs.Grammar.{AreRows}
 use Rattle.reader.specs.Sized.{Sized}
@@ -43,7 +44,7 @@ module _ (table : Table) (sized : Sized table) (fits : tableValid table ≡ true
 
   abbrev bytesOf : List ℕ
   bytesOf =
-      ended ((PNP ++ version1) ∷ Files.line2 table sized fits ∷ map lineOf (rowsOf table))
+      ended (versionLine First ∷ Files.line2 table sized fits ∷ map lineOf (rowsOf table))
 
   rows-length : length rows ≡ table .count
   rows-length = length-map (rowsOf table) bare ∙ Files.rows-counted table sized fits
@@ -64,9 +65,12 @@ module _ (table : Table) (sized : Sized table) (fits : tableValid table ≡ true
         tableValid-count table fits,
       ))
 
-  rows-are : AreRows words (map lineOf (rowsOf table)) rows
+  abbrev rules : List (List ℕ)
+  rules = map lineOf (rowsOf table)
+
+  rows-are : AreRows (Files.linesOf table sized fits rules) rules rows
   rows-are =
-      lines-rows s (map nameOf words) (width (length words)) (rowsOf table)
+      lines-rows s (map nameOf words) (width (length words)) First (rowsOf table)
       (Files.rows-valid table sized fits)
 
   pub valid-witnessed : Witnessed table

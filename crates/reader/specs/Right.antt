@@ -6,17 +6,17 @@ use mathlib.Core.Bool.{false}
 use mathlib.Core.List.{List, [], _∷_, _++_, map}
 use mathlib.Core.Path.{_≡_}
 use lib.ListN.{length}
-use Rattle.letters.specs.Letter.{width}
 use Rattle.table.specs.Limits.{mostBytes, mostSignals, mostRows}
 use Rattle.table.specs.Name.{allDistinct}
 use Rattle.table.specs.declared.Row.{Row}
 use Rattle.table.specs.declared.Table.{Table}
 use Rattle.text.specs.Lines.{LF}
-use Rattle.text.specs.Words.{PNP, version1}
+use Rattle.text.specs.Words.{versionDigits}
+use Rattle.text.specs.declared.Version.{Version}
 use Rattle.conditions.specs.Condition.{nameOf}
-use Rattle.header.specs.Header.{IsHeader, IsSignals}
-use Rattle.rows.specs.Row.{RowFault}
-use Rattle.reader.specs.Grammar.{AreLines, HasNames, HasHeader, AreRows, IsFile}
+use Rattle.header.specs.Header.{IsHeader, versionLine, IsSignals}
+use Rattle.reader.specs.Grammar.{AreLines, FileLines, HasNames, HasHeader, AreRows, Fault}
+use Rattle.reader.specs.Grammar.{IsFile}
 use Rattle.reader.specs.Reading.{accepted, refusedFile}
 use Rattle.reader.specs.declared.Reading.{Reading}
 
@@ -33,31 +33,36 @@ module _ (bytes : List ℕ) where
         → length bytes ≤ mostBytes → RightReading (refusedFile 3 0)
     -- "line 1 is no `PNP ` and four digits"
     is4 : {line : List ℕ} {rest : List (List ℕ)} → AreLines bytes (line ∷ rest)
-        → ((version : List ℕ) → IsHeader line version → ⊥) → RightReading (refusedFile 4 1)
+        → ((digits : List ℕ) → IsHeader line digits → ⊥) → RightReading (refusedFile 4 1)
     -- "version not 0001"
-    is5 : {line version : List ℕ} {rest : List (List ℕ)} → AreLines bytes (line ∷ rest)
-        → IsHeader line version → (version ≡ version1 → ⊥) → RightReading (refusedFile 5 1)
+    is5 : {line digits : List ℕ} {rest : List (List ℕ)} → AreLines bytes (line ∷ rest)
+        → IsHeader line digits → ((version : Version) → digits ≡ versionDigits version → ⊥)
+        → RightReading (refusedFile 5 1)
     -- "line 2 missing, misshapen or without a name"
-    is6missing : AreLines bytes ((PNP ++ version1) ∷ []) → RightReading (refusedFile 6 2)
-    is6 : {line : List ℕ} {rest : List (List ℕ)} → AreLines bytes ((PNP ++ version1) ∷ line ∷ rest)
+    is6missing : (version : Version) → AreLines bytes (versionLine version ∷ [])
+        → RightReading (refusedFile 6 2)
+    is6 : (version : Version) {line : List ℕ} {rest : List (List ℕ)}
+        → AreLines bytes (versionLine version ∷ line ∷ rest)
         → ((names : List (List ℕ)) → IsSignals line names → ⊥) → RightReading (refusedFile 6 2)
     -- "over six signals"
-    is7 : {names rest : List (List ℕ)} → HasNames bytes names rest → mostSignals < length names
+    is7 : {file : FileLines} → HasNames bytes file → mostSignals < length (file .names)
         → RightReading (refusedFile 7 2)
     -- "a name twice"
-    is8 : {names rest : List (List ℕ)} → HasNames bytes names rest → length names ≤ mostSignals
-        → allDistinct (map nameOf names) ≡ false → RightReading (refusedFile 8 2)
+    is8 : {file : FileLines} → HasNames bytes file → length (file .names) ≤ mostSignals
+        → allDistinct (map nameOf (file .names)) ≡ false → RightReading (refusedFile 8 2)
     -- "ninth row": whatever it holds
-    is9 : {names rules : List (List ℕ)} {rows : List Row} (line : List ℕ) (rest : List (List ℕ))
-        → HasHeader bytes names (rules ++ line ∷ rest) → AreRows names rules rows
-        → length rules ≡ mostRows → RightReading (refusedFile 9 (mostRows + 3))
+    is9 : {file : FileLines} {before : List (List ℕ)} {rows : List Row} (line : List ℕ)
+        (rest : List (List ℕ)) → HasHeader bytes file → file .rules ≡ before ++ line ∷ rest
+        → AreRows file before rows → length before ≡ mostRows
+        → RightReading (refusedFile 9 (mostRows + 3))
     -- 10 to 15, of the first line that is no row
-    isFault : {names rules : List (List ℕ)} {rows : List Row} {number : ℕ} (line : List ℕ)
-        (rest : List (List ℕ)) → HasHeader bytes names (rules ++ line ∷ rest)
-        → AreRows names rules rows → length rules < mostRows
-        → RowFault (map nameOf names) (width (length names)) line number
-        → RightReading (refusedFile number (length rules + 3))
+    isFault : {file : FileLines} {before : List (List ℕ)} {rows : List Row} {number : ℕ}
+        (line : List ℕ) (rest : List (List ℕ)) → HasHeader bytes file
+        → file .rules ≡ before ++ line ∷ rest → AreRows file before rows
+        → length before < mostRows → Fault file line number
+        → RightReading (refusedFile number (length before + 3))
     -- "no row"
-    is16 : {names : List (List ℕ)} → HasHeader bytes names [] → RightReading (refusedFile 16 3)
+    is16 : {file : FileLines} → HasHeader bytes file → file .rules ≡ []
+        → RightReading (refusedFile 16 3)
     -- no number fits
     isTable : {table : Table} → IsFile bytes table → RightReading (accepted table)

@@ -1,6 +1,7 @@
 // The reader: any bytes in, exactly the tables of document 01 out. specs/Grammar.antt describes the
 // accepted files, specs/Right.antt which number and line each other one gets. Crate `header` reads
 // lines 1 and 2, crate `rows` each further line.
+use header::VersionRead;
 use table::CONDITIONS;
 use table::MOST_BYTES;
 use table::MOST_ROWS;
@@ -12,6 +13,7 @@ use table::Refusal;
 use table::Row;
 use table::Table;
 use text::LF;
+use text::Version;
 ghost use mathlib.Core.Path.{_≡_};
 ghost use Prim.Native.Nat.{_+_, min};
 ghost use lib.ListN.{length};
@@ -70,9 +72,9 @@ fn rows_of(
     rows
 }
 
-// The lines from line 3 on: a row each.
-fn read_rows(rest: &[u8], names: [Name; MOST_SIGNALS], signals: u8) -> Reading
-    ensures { λ r. ⌜ r ≡ rowsAnswer names signals (lines (now (rest .entry))) ⌝ }
+// The lines from line 3 on: a row each, in a file of a version.
+fn read_rows(rest: &[u8], names: [Name; MOST_SIGNALS], signals: u8, version: Version) -> Reading
+    ensures { λ r. ⌜ r ≡ rowsAnswer names signals version (lines (now (rest .entry))) ⌝ }
 {
     if rest.len() == 0 {
         return refused(16, 3);
@@ -87,7 +89,7 @@ fn read_rows(rest: &[u8], names: [Name; MOST_SIGNALS], signals: u8) -> Reading
             return refused(9, n + 3);
         }
         let end = at + text::find(&rest[at..], LF);
-        let read = rows::read_row(&rest[at..end], names, signals);
+        let read = rows::read_row(&rest[at..end], names, signals, version);
         if read.number != 0 {
             return refused(read.number, n + 3);
         }
@@ -117,9 +119,9 @@ fn past(s: &[u8], end: usize) -> usize
     if end < s.len() { end + 1 } else { s.len() }
 }
 
-// The lines from line 2 on.
-fn read_body(rest: &[u8]) -> Reading
-    ensures { λ r. ⌜ r ≡ bodyAnswer (lines (now (rest .entry))) ⌝ }
+// The lines from line 2 on, in a file of a version.
+fn read_body(rest: &[u8], version: Version) -> Reading
+    ensures { λ r. ⌜ r ≡ bodyAnswer version (lines (now (rest .entry))) ⌝ }
 {
     if rest.len() == 0 {
         return refused(6, 2);
@@ -131,7 +133,7 @@ fn read_body(rest: &[u8]) -> Reading
     }
     let names = read.names;
     let from = past(rest, end);
-    read_rows(&rest[from..], names, read.count)
+    read_rows(&rest[from..], names, read.count, version)
 }
 
 // The table that the bytes are; or number and line, and an empty table.
@@ -148,10 +150,9 @@ pub fn read(bytes: &[u8]) -> Reading
         return refused(3, 0);
     }
     let end = text::find(bytes, LF);
-    let number = header::check_header(&bytes[..end]);
-    if number != 0 {
-        return refused(number, 1);
-    }
     let from = past(bytes, end);
-    read_body(&bytes[from..])
+    match header::read_version(&bytes[..end]) {
+        VersionRead::Known(version) => read_body(&bytes[from..], version),
+        VersionRead::Refused(number) => refused(number, 1),
+    }
 }

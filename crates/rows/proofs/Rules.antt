@@ -19,6 +19,7 @@ use Rattle.table.specs.declared.Name.{Name}
 use Rattle.table.specs.declared.Row.{Row}
 use Rattle.text.specs.Lines.{LF, comma, joined, count}
 use Rattle.text.specs.Words.{ruleWord}
+use Rattle.text.specs.declared.Version.{Version}
 use Rattle.text.specs.inner.Cut.{split}
 use Rattle.text.proofs.Splits.{split-length}
 use Rattle.text.proofs.Joins.{split-joined, joined-split, split-free, joined-free}
@@ -69,10 +70,10 @@ module _ (line : List ℕ) (fields : List (List ℕ)) (rule : IsRule line fields
       ) in
       rw (rule .line-is, commas)
 
-  rule-answer : (names : List Name) (n : ℕ)
-      → rowAnswer names n line ≡ rowFields (fieldsOf names n 0 fields)
+  rule-answer : (names : List Name) (n : ℕ) (version : Version)
+      → rowAnswer names n version line ≡ rowFields (fieldsOf names n 0 fields)
   unfolding rowAnswer
-  rule-answer names n =
+  rule-answer names n version =
       rw rule-shaped
       (ap (λ (l : List ℕ). rowFields (fieldsOf names n 0 (split comma (drop 5 l)))) (rule .line-is)
       ∙ ap (λ (l : List (List ℕ)). rowFields (fieldsOf names n 0 l))
@@ -137,28 +138,29 @@ true-ordered row h =
       action = leb-true (row .amin) (row .amax) (and-right (t && l) a h);
     }
 
+-- Fields that are right have no number, and their values make the row.
+clean : (values : List ℕ) → numberAmong (map Value values) ≡ 0
+unfolding numberAmong
+clean [] = refl
+clean (v ∷ values) = clean values
+
+held : (values : List ℕ) → map valueOf (map Value values) ≡ values
+held [] = refl
+held (v ∷ values) = ap (_∷_ v) (held values)
+
 module _ (names : List Name) (n : ℕ) where
   fields-length : {kinds : List FieldKind} {fields : List (List ℕ)} {values : List ℕ}
       → AreFields names n kinds fields values → length values ≡ length kinds
   fields-length none = refl
   fields-length (and h more) = ap suc (fields-length more)
 
-  -- Fields that are right have no number, and their values make the row.
-  clean : (values : List ℕ) → numberAmong (map Value values) ≡ 0
-  unfolding numberAmong
-  clean [] = refl
-  clean (v ∷ values) = clean values
-
-  held : (values : List ℕ) → map valueOf (map Value values) ≡ values
-  held [] = refl
-  held (v ∷ values) = ap (_∷_ v) (held values)
-
   pub row-same : (line : List ℕ) (row : Row) → HasFields names n line row
       → rowOf (rowValues row) ≡ row
   row-same line row h = row-values row (fields-length (h .right))
 
-  -- No LF is in it.
-  pub row-free : (line : List ℕ) (row : Row) → IsRow names n line row → count LF line ≡ 0
+module _ (names : List Name) (n : ℕ) (version : Version) where
+  -- No LF is in a row's line.
+  pub row-free : (line : List ℕ) (row : Row) → IsRow names n version line row → count LF line ≡ 0
   unfolding count some
   row-free line row r =
       let has = r .has in
@@ -166,25 +168,26 @@ module _ (names : List Name) (n : ℕ) where
       ∙ joined-free comma LF refl (has .fields) (fields-free names n LF refl refl (has .right))
 
   row-answer : (line : List ℕ) (row : Row) → HasFields names n line row
-      → rowAnswer names n line
+      → rowAnswer names n version line
       ≡ cond (boundsOrdered (boundsOf row))
       (record { number = 0; sets = row .sets; bounds = boundsOf row }) (rowRefused 15)
   unfolding rowFields
   row-answer line row h =
       let values = rowValues row in
-      let same = row-same line row h in
-      rule-answer line (h .fields) (h .rule) names n
+      let same = row-same names n line row h in
+      rule-answer line (h .fields) (h .rule) names n version
       ∙ ap rowFields (fields-values names n kinds-all (h .right))
       ∙ rw (clean values, held values)
       (ap (λ (r : Row). cond {A = RowRead} (boundsOrdered (boundsOf r))
       (record { number = 0; sets = r .sets; bounds = boundsOf r }) (rowRefused 15)) same)
 
-  pub row-read : (line : List ℕ) (row : Row) → IsRow names n line row
-      → rowAnswer names n line ≡ record { number = 0; sets = row .sets; bounds = boundsOf row }
+  pub row-read : (line : List ℕ) (row : Row) → IsRow names n version line row
+      → rowAnswer names n version line
+      ≡ record { number = 0; sets = row .sets; bounds = boundsOf row }
   row-read line row r = row-answer line row (r .has) ∙ rw (ordered-true row (r .ordered))
 
-  pub fault-read : (line : List ℕ) (number : ℕ) → RowFault names n line number
-      → (rowAnswer names n line ≡ rowRefused number) × (number ≡ 0 → ⊥)
+  pub fault-read : (line : List ℕ) (number : ℕ) → RowFault names n version line number
+      → (rowAnswer names n version line ≡ rowRefused number) × (number ≡ 0 → ⊥)
   unfolding rowAnswer rowFields
   fault-read line number (misshapen h) = (go (ruleShaped line) refl, λ z. omega arith)
     where
@@ -193,8 +196,11 @@ module _ (names : List Name) (n : ℕ) where
       go true e = absurd (h _ (shaped-rule line e))
       go false e = refl
   fault-read line number (inField {fields} rule first) =
-      let found = fault-found names n kinds-all first in
-      (rule-answer line fields rule names n ∙ rw (found .0, ne-eqb number 0 (found .1)), found .1)
+      let found = fault-found names n kinds-all first in (
+        rule-answer line fields rule names n version
+            ∙ rw (found .0, ne-eqb number 0 (found .1)),
+        found .1,
+      )
   fault-read line number (crossed {row} h other) =
       (row-answer line row h ∙ go (boundsOrdered (boundsOf row)) refl, λ z. omega arith)
     where
@@ -206,8 +212,8 @@ module _ (names : List Name) (n : ℕ) where
 
   -- Each line is a row, or has a fault.
   pub data RowFound (line : List ℕ) : Type 0 where
-    aRow : (row : Row) → IsRow names n line row → RowFound line
-    aFault : (number : ℕ) → RowFault names n line number → RowFound line
+    aRow : (row : Row) → IsRow names n version line row → RowFound line
+    aFault : (number : ℕ) → RowFault names n version line number → RowFound line
 
   pub row-found : (line : List ℕ) → RowFound line
   row-found line = go (ruleShaped line) refl
@@ -221,7 +227,7 @@ module _ (names : List Name) (n : ℕ) where
           has = record {
             fields = fields;
             rule = rule;
-            right = rw (values-row values (fields-length all)) all;
+            right = rw (values-row values (fields-length names n all)) all;
           }
 
           go : (t : Bool) → boundsOrdered (boundsOf (rowOf values)) ≡ t → RowFound line
@@ -256,9 +262,10 @@ module _ (names : List Name) (n : ℕ) where
   first-among (noBound h) = (omega arith, omega arith)
   first-among (later v h first) = first-among first
 
-  pub fault-among : (line : List ℕ) (number : ℕ) → RowFault names n line number
+  pub fault-among : (version : Version) (line : List ℕ) (number : ℕ)
+      → RowFault names n version line number
       → (10 ≤ number) × (number ≤ 15)
-  fault-among line number (misshapen h) = (omega arith, omega arith)
-  fault-among line number (inField rule first) =
+  fault-among version line number (misshapen h) = (omega arith, omega arith)
+  fault-among version line number (inField rule first) =
       let few = first-among first in (omega (arith, few .0), omega (arith, few .1))
-  fault-among line number (crossed h other) = (omega arith, omega arith)
+  fault-among version line number (crossed h other) = (omega arith, omega arith)

@@ -8,6 +8,7 @@ use Rattle.table.specs.declared.Row.{Row}
 use Rattle.text.specs.Bounds.{IsBound}
 use Rattle.text.specs.Lines.{comma, joined, Free}
 use Rattle.text.specs.Words.{ruleWord}
+use Rattle.text.specs.declared.Version.{Version}
 use Rattle.conditions.specs.Judge.{IsCondition, RightCondition}
 use Rattle.conditions.specs.declared.Judged.the-variants.{Refused}
 
@@ -56,8 +57,8 @@ module _ (names : List Name) (letters : ℕ) where
     pub rule : IsRule line fields
     pub right : AreFields fieldKinds fields (rowValues row)
 
-  -- The line is this row.
-  pub record IsRow (line : List ℕ) (row : Row) : Type 0 where
+  -- The line is this row, in a file of a version. Rows are the same in each.
+  pub record IsRow (version : Version) (line : List ℕ) (row : Row) : Type 0 where
     pub has : HasFields line row
     pub ordered : Ordered row
 
@@ -75,8 +76,8 @@ module _ (names : List Name) (letters : ℕ) where
 
   -- "On a row: .. 10 [no `rule ` or not eleven commas], then the fields from the left .., then 15
   -- [least above most] for T, L, A."
-  pub data RowFault (line : List ℕ) : ℕ → Type 0 where
-    misshapen : ((fields : List (List ℕ)) → IsRule line fields → ⊥) → RowFault line 10
+  pub data RowFault (version : Version) (line : List ℕ) : ℕ → Type 0 where
+    misshapen : ((fields : List (List ℕ)) → IsRule line fields → ⊥) → RowFault version line 10
     inField : {fields : List (List ℕ)} {number : ℕ} → IsRule line fields
-        → FirstFault fieldKinds fields number → RowFault line number
-    crossed : {row : Row} → HasFields line row → (Ordered row → ⊥) → RowFault line 15
+        → FirstFault fieldKinds fields number → RowFault version line number
+    crossed : {row : Row} → HasFields line row → (Ordered row → ⊥) → RowFault version line 15

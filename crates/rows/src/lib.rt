@@ -7,6 +7,7 @@ use table::MOST_SIGNALS;
 use table::Name;
 use table::Row;
 use text::Bound;
+use text::Version;
 ghost use mathlib.Core.Path.{_≡_};
 ghost use lib.ListN.{length, take, drop};
 ghost use lib.Dec.{ltb};
@@ -169,9 +170,11 @@ fn judge_row(v: [u64; FIELDS]) -> RowRead
     }
 }
 
-// A row's line; or 10, then 11 to 14 of the first field that has one, then 15.
-pub fn read_row(line: &[u8], names: [Name; MOST_SIGNALS], signals: u8) -> RowRead
-    ensures { λ r. ⌜ r ≡ rowAnswer (take signals names) (width signals) (now (line .entry)) ⌝ }
+// A row's line in a file of a version; or 10, then 11 to 14 of the first field that has one, then
+// 15. No version has other rows yet.
+pub fn read_row(line: &[u8], names: [Name; MOST_SIGNALS], signals: u8, version: Version) -> RowRead
+    ensures { λ r. ⌜ r ≡ rowAnswer (take signals names) (width signals) version
+        (now (line .entry)) ⌝ }
 {
     if !text::starts_with(line, b"rule ") {
         return turned_down(10);

@@ -3,9 +3,10 @@
 use Prim.Native.Nat.{ℕ, suc, _+_, _-_, _<_, _≤_}
 use native.Mathlib.Numerals.{add-one}
 use native.Mathlib.Omega.{arith}
-use mathlib.Core.Bool.{Bool, true, false, _&&_, not, cond}
+use mathlib.Core.Bool.{Bool, true, false, _&&_, not, cond, and-false}
 use mathlib.Core.List.{List, [], _∷_}
 use mathlib.Core.Path.{_≡_, refl}
+use borrow.Author.Tests.{lt-leb}
 use lib.ListN.{length, getD, take, drop, replicate, drop-of-length-le}
 use lib.Seq.{drop-cons, getD-take, take-at, drop-at}
 use Rattle.letters.specs.Letter.{setValid}
@@ -15,7 +16,8 @@ use Rattle.letters.proofs.Lists.{within-true, every-replicate}
 use Rattle.table.specs.Limits.{mostRows, mostSignals, mostTicks}
 use Rattle.table.specs.Row.{boundsValid, rowValid, rowUnused, zeroRow}
 use Rattle.table.specs.Name.{isLowercase, nameRun, sameName, allDistinct}
-use Rattle.table.specs.Valid.{rowsValid, namesValid, rowsOf, tableFrom, tableValid}
+use Rattle.table.specs.Valid.{countsAllowed, rowsValid, namesValid, rowsOf, tableFrom}
+use Rattle.table.specs.Valid.{tableValid}
 use Rattle.table.specs.declared.Name.{Name}
 use Rattle.table.specs.declared.Row.{Row}
 use Rattle.table.specs.declared.Table.{Table}
@@ -96,34 +98,53 @@ rowValid-sets s r h =
     and-four (boundsValid (r .tmin) (r .tmax)) (boundsValid (r .lmin) (r .lmax))
     (boundsValid (r .amin) (r .amax)) (every (setValid s) (r .sets)) h .3
 
-pub rowsValid-signals : (s : ℕ) (rows : List Row) → rowsValid s rows ≡ true
-    → (1 ≤ s) × (s ≤ mostSignals)
-unfolding rowsValid
-rowsValid-signals s rows h =
-    let counts = and-left _ (every (rowValid s) rows) h in
-    within-bounds 1 mostSignals s (and-left _ (within 1 mostRows (length rows)) counts)
+-- Both counts of a file.
+module _ (s count : ℕ) (allowed : countsAllowed s count ≡ true) where
+  pub counts-signals : (1 ≤ s) × (s ≤ mostSignals)
+  unfolding countsAllowed
+  counts-signals = within-bounds 1 mostSignals s (and-left _ (within 1 mostRows count) allowed)
 
-pub rowsValid-count : (s : ℕ) (rows : List Row) → rowsValid s rows ≡ true
-    → (1 ≤ length rows) × (length rows ≤ mostRows)
-unfolding rowsValid
-rowsValid-count s rows h =
-    let counts = and-left _ (every (rowValid s) rows) h in
-    within-bounds 1 mostRows (length rows) (and-right (within 1 mostSignals s) _ counts)
+  pub counts-rows : (1 ≤ count) × (count ≤ mostRows)
+  unfolding countsAllowed
+  counts-rows = within-bounds 1 mostRows count (and-right (within 1 mostSignals s) _ allowed)
 
-pub rowsValid-rows : (s : ℕ) (rows : List Row) → rowsValid s rows ≡ true
-    → every (rowValid s) rows ≡ true
-unfolding rowsValid
-rowsValid-rows s rows h = and-right (within 1 mostSignals s && within 1 mostRows (length rows)) _ h
+pub counts-right : (s count : ℕ) → 1 ≤ s → s ≤ mostSignals → 1 ≤ count → count ≤ mostRows
+    → countsAllowed s count ≡ true
+unfolding countsAllowed
+counts-right s count some few one most =
+    rw (within-true 1 mostSignals s some few, within-true 1 mostRows count one most)
+
+pub counts-many : (s count : ℕ) → mostRows < count → countsAllowed s count ≡ false
+unfolding countsAllowed
+counts-many s count h = simp (lt-leb count mostRows h, and-false)
+
+-- Rows that number 17 lets by, with a signal count.
+module _ (s : ℕ) (rows : List Row) (fits : rowsValid s rows ≡ true) where
+  rowsValid-parts : (countsAllowed s (length rows) ≡ true) × (every (rowValid s) rows ≡ true)
+  unfolding rowsValid
+  rowsValid-parts = (
+    and-left _ (every (rowValid s) rows) fits,
+    and-right (countsAllowed s (length rows)) _ fits,
+  )
+
+  pub rowsValid-signals : (1 ≤ s) × (s ≤ mostSignals)
+  rowsValid-signals = counts-signals s (length rows) (rowsValid-parts .0)
+
+  pub rowsValid-count : (1 ≤ length rows) × (length rows ≤ mostRows)
+  rowsValid-count = counts-rows s (length rows) (rowsValid-parts .0)
+
+  pub rowsValid-rows : every (rowValid s) rows ≡ true
+  rowsValid-rows = rowsValid-parts .1
 
 -- A table value that number 17 lets by.
 module _ (t : Table) (fits : tableValid t ≡ true) where
-  tableValid-parts : (within 1 mostRows (t .count) ≡ true) ×
+  tableValid-parts : (countsAllowed (t .signals) (t .count) ≡ true) ×
       (rowsValid (t .signals) (rowsOf t) ≡ true)
       × (namesValid (t .signals) (t .names) ≡ true)
       × (every rowUnused (drop (t .count) (t .rows)) ≡ true)
   unfolding tableValid
   tableValid-parts =
-      and-four (within 1 mostRows (t .count)) (rowsValid (t .signals) (rowsOf t))
+      and-four (countsAllowed (t .signals) (t .count)) (rowsValid (t .signals) (rowsOf t))
       (namesValid (t .signals) (t .names)) (every rowUnused (drop (t .count) (t .rows))) fits
 
   pub tableValid-rows : rowsValid (t .signals) (rowsOf t) ≡ true
@@ -133,10 +154,10 @@ module _ (t : Table) (fits : tableValid t ≡ true) where
   tableValid-names = tableValid-parts .2
 
   pub tableValid-count : (1 ≤ t .count) × (t .count ≤ mostRows)
-  tableValid-count = within-bounds 1 mostRows (t .count) (tableValid-parts .0)
+  tableValid-count = counts-rows (t .signals) (t .count) (tableValid-parts .0)
 
   pub tableValid-signals : (1 ≤ t .signals) × (t .signals ≤ mostSignals)
-  tableValid-signals = rowsValid-signals (t .signals) (rowsOf t) tableValid-rows
+  tableValid-signals = counts-signals (t .signals) (t .count) (tableValid-parts .0)
 
   pub tableValid-unused : every rowUnused (drop (t .count) (t .rows)) ≡ true
   tableValid-unused = tableValid-parts .3
@@ -155,9 +176,8 @@ module _ (s : ℕ) (names : List Name) (rows : List Row) where
       → tableValid (tableFrom s names rows) ≡ true
   unfolding tableValid
   tableFrom-valid fits named =
-      let many = rowsValid-count s rows fits in
       rw (
-        within-true 1 mostRows (length rows) (many .0) (many .1),
+        rowsValid-parts s rows fits .0,
         tableFrom-rows,
         fits,
         named,

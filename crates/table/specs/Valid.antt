@@ -11,11 +11,13 @@ use Rattle.table.specs.declared.Row.{Row}
 use Rattle.table.specs.declared.Name.{Name}
 use Rattle.table.specs.declared.Table.{Table}
 
--- The part of it for a signal count and rows alone: 1 to 6 signals, 1 to 8 rows, and rows that a
--- file can have.
+-- "1 to 6 signals, 1 to 8 rows": a signal count and a row count that a file can have together.
+unfoldable pub countsAllowed : ℕ → ℕ → Bool
+countsAllowed s count = within 1 mostSignals s && within 1 mostRows count
+
+-- The part of it for a signal count and rows alone: both counts, and rows that a file can have.
 unfoldable pub rowsValid : ℕ → List Row → Bool
-rowsValid s rows =
-    within 1 mostSignals s && within 1 mostRows (length rows) && every (rowValid s) rows
+rowsValid s rows = countsAllowed s (length rows) && every (rowValid s) rows
 
 -- The part of it for names: one for each signal, none twice, and the unused ones 0.
 unfoldable pub namesValid : ℕ → List Name → Bool
@@ -40,6 +42,6 @@ tableFrom signals names rows = record {
 -- by.
 unfoldable pub tableValid : Table → Bool
 tableValid table =
-    within 1 mostRows (table .count) && rowsValid (table .signals) (rowsOf table)
+    countsAllowed (table .signals) (table .count) && rowsValid (table .signals) (rowsOf table)
     && namesValid (table .signals) (table .names)
     && every rowUnused (drop (table .count) (table .rows))

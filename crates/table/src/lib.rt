@@ -4,7 +4,7 @@ pub mod names;
 pub mod rows;
 
 ghost use mathlib.Core.Path.{_≡_};
-ghost use Rattle.table.specs.Valid.{tableValid};
+ghost use Rattle.table.specs.Valid.{countsAllowed, tableValid};
 
 // The limits of document 01. specs/Limits.antt has them too.
 pub const MOST_BYTES: usize = 4096;
@@ -71,6 +71,13 @@ pub enum Outcome {
     Refused(Refusal),
 }
 
+// Whether a file can have so many signals and so many rows.
+pub fn counts_allowed(signals: u8, count: usize) -> bool
+    ensures { λ r. ⌜ r ≡ countsAllowed signals count ⌝ }
+{
+    letters::within(1, MOST_SIGNALS, signals as usize) & letters::within(1, MOST_ROWS, count)
+}
+
 // Whether number 17 lets a table value by.
 pub fn valid(table: Table) -> bool
     ensures { λ r. ⌜ r ≡ tableValid table ⌝ }
@@ -79,8 +86,7 @@ pub fn valid(table: Table) -> bool
     let count = table.count as usize;
     let names = table.names;
     let rows = table.rows;
-    letters::within(1, MOST_SIGNALS, signals)
-        & letters::within(1, MOST_ROWS, count)
+    counts_allowed(table.signals, count)
         & names::used_valid(names, signals)
         & names::distinct(names, signals)
         & names::rest_unused(names, signals)

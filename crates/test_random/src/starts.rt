@@ -5,12 +5,12 @@ use crate::random::byte_below;
 use crate::random::mixed;
 use crate::random::one_in;
 use crate::reached::letter_count;
+use pass::Slot;
+use pass::Watch;
 use step::Phase;
 use table::MOST_ROWS;
 use table::Row;
 use table::Table;
-use watcher::Slot;
-use watcher::Watch;
 
 // No trace is longer.
 pub const MOST_LETTERS: usize = 24;
@@ -68,7 +68,7 @@ pub fn watch_of(codes: [u8; MOST_ROWS]) -> Watch {
         slots: [waiting; MOST_ROWS],
     };
     for i in 0..MOST_ROWS {
-        let phase = step::phase_of(codes[i]);
+        let phase = phases::phase_of(codes[i]);
         watch.slots[i] = Slot { phase };
     }
     watch

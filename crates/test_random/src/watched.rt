@@ -27,12 +27,12 @@ use crate::starts::any_letters;
 use crate::starts::tick_number;
 use crate::starts::watch_of;
 use crate::tally::reported;
+use pass::Watch;
 use step::Events;
 use table::MOST_ROWS;
 use table::Outcome;
 use table::Table;
 use watcher::Played;
-use watcher::Watch;
 
 // Where a trace has come to: the watcher's state, the codes of the second reading and how often
 // each event came up in it, the number of the first refusal, and what differs so far.
@@ -99,7 +99,7 @@ fn same_codes(watch: Watch, codes: [u8; MOST_ROWS]) -> bool {
     for i in 0..MOST_ROWS {
         let slot = watch.slots[i];
         let phase = slot.phase;
-        if step::code(phase) != codes[i] as u16 {
+        if phases::code(phase) != codes[i] as u16 {
             return false;
         }
     }

@@ -5,14 +5,14 @@ use crate::rows::ALWAYS;
 use crate::rows::C;
 use crate::rows::NEVER;
 use crate::ways::Tally;
+use lending::MOST_LENT;
 use libc::STDOUT_FILENO;
+use pass::Slot;
+use pass::Watch;
 use table::MOST_ROWS;
 use table::MOST_TICKS;
 use table::Row;
 use table::Table;
-use watcher::MOST_LENT;
-use watcher::Slot;
-use watcher::Watch;
 
 const NOT_A: u64 = 5;
 
@@ -96,7 +96,7 @@ fn eight_rows() -> Table {
 
 fn slot(code: u8) -> Slot {
     Slot {
-        phase: step::phase_of(code),
+        phase: phases::phase_of(code),
     }
 }
 

@@ -11,6 +11,8 @@ mod show;
 mod ways;
 
 use libc::STDOUT_FILENO;
+use pass::Slot;
+use pass::Watch;
 use rows::one_row;
 use rows::one_signal;
 use rows::row_brief;
@@ -24,8 +26,6 @@ use step::Phase;
 use table::Name;
 use table::Table;
 use watcher::Played;
-use watcher::Slot;
-use watcher::Watch;
 use ways::Tally;
 ghost use Prim.Native.Nat.{_≤_};
 
@@ -37,7 +37,7 @@ fn print_answer(played: Played) {
     let slot = watch.slots[0];
     let phase = slot.phase;
     io::write_all(STDOUT_FILENO, b"code ");
-    io::print_decimal(STDOUT_FILENO, step::code(phase) as u64);
+    io::print_decimal(STDOUT_FILENO, phases::code(phase) as u64);
     io::write_all(STDOUT_FILENO, b"\n");
 }
 
@@ -122,7 +122,7 @@ pub(crate) fn print_cases(
 fn with_code(code: u8) -> Watch {
     let mut watch = watcher::start();
     watch.slots[0] = Slot {
-        phase: step::phase_of(code),
+        phase: phases::phase_of(code),
     };
     watch
 }

@@ -1,16 +1,16 @@
 // A trace goes three ways: played at once as a table value, and its letters ticked one by one, of
 // the table value and with rows and state lent. What each way gives is a `Run`.
 ghost use Prim.Native.Nat.{_<_};
+use lending::MOST_LENT;
+use pass::Reply;
+use pass::Ticked;
+use pass::Watch;
 use step::Events;
 use table::MOST_ROWS;
 use table::Outcome;
 use table::Row;
 use table::Table;
 use watcher::Counts;
-use watcher::MOST_LENT;
-use watcher::Reply;
-use watcher::Ticked;
-use watcher::Watch;
 
 // No trace here is longer.
 pub(crate) const MOST_LETTERS: usize = 6;
@@ -133,7 +133,7 @@ fn tick_by(lent: bool, table: Table, watch: Watch, letter: u8) -> Ticked {
     }
     let rows = rows_of(table);
     let count = table.count as usize;
-    watcher::tick_lent(table.signals, rows, count, watch, letter)
+    lending::tick_lent(table.signals, rows, count, watch, letter)
 }
 
 // Before the first tick: letter 0 is never too large, so a tick with it only tests 17 and 18.

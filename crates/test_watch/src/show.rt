@@ -6,9 +6,9 @@ use crate::runs::KINDS;
 use crate::runs::MOST_LETTERS;
 use crate::runs::Run;
 use libc::STDOUT_FILENO;
+use pass::Watch;
 use table::MOST_ROWS;
 use table::Outcome;
-use watcher::Watch;
 
 // `refused 19 line 0, ` if the call is refused, and nothing else.
 pub(crate) fn print_outcome(outcome: Outcome) {
@@ -31,7 +31,7 @@ pub(crate) fn print_codes(watch: Watch) {
         let slot = watch.slots[i];
         let phase = slot.phase;
         io::write_all(STDOUT_FILENO, space);
-        io::print_decimal(STDOUT_FILENO, step::code(phase) as u64);
+        io::print_decimal(STDOUT_FILENO, phases::code(phase) as u64);
     }
 }
 

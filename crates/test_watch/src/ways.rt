@@ -10,13 +10,13 @@ use crate::show::print_counts;
 use crate::show::print_outcome;
 use crate::show::print_ticks;
 use libc::STDOUT_FILENO;
+use pass::Slot;
+use pass::Watch;
 use step::Phase;
 use table::MOST_ROWS;
 use table::Outcome;
 use table::Refusal;
 use table::Table;
-use watcher::Slot;
-use watcher::Watch;
 
 // More cases are not counted.
 const MOST_CASES: u16 = 9999;
@@ -53,7 +53,7 @@ fn same_codes(one: Watch, other: Watch) -> bool {
         let phase = slot.phase;
         let fellow = other.slots[i];
         let second = fellow.phase;
-        if step::code(phase) != step::code(second) {
+        if phases::code(phase) != phases::code(second) {
             return false;
         }
     }

@@ -4,6 +4,8 @@ use Prim.Native.Char.{code}
 use Prim.Native.Nat.{ℕ}
 use mathlib.Core.List.{List}
 use Rattle.text.specs.Bytes.{bytes}
+use Rattle.text.specs.declared.Version.{Version}
+use Rattle.text.specs.declared.Version.the-variants.{First}
 
 -- "Line 1 is `PNP ` and the 16-bit version as four digits 0-9, A-F (base 16): `PNP 0001`."
 abbrev pub PNP : List ℕ
@@ -11,6 +13,10 @@ PNP = bytes "PNP "
 
 abbrev pub version1 : List ℕ
 version1 = bytes "0001"
+
+-- The versions that are read, each with its digits.
+abbrev pub versionDigits : Version → List ℕ
+versionDigits First = version1
 
 -- "Line 2 is `signals`, then a space and a name for each signal."
 abbrev pub signalsWord : List ℕ

@@ -10,6 +10,11 @@ ghost use Rattle.text.specs.inner.Bounds.{oneDigit, twoDigits, boundOf};
 // The byte at the end of each line.
 pub const LF: u8 = 10;
 
+// The versions of a table file that are read.
+pub enum Version {
+    First,
+}
+
 // What a field for a bound holds.
 pub enum Bound {
     Value(u8),

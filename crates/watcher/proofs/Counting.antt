@@ -18,7 +18,7 @@ use Rattle.step.specs.Tick.{tick, tableSystem}
 use Rattle.step.specs.Events.{noEvents, tickEvents, traceEvents, Event, happens, timesOf}
 use Rattle.step.proofs.RowEvents.{times-few}
 use Rattle.watcher.specs.declared.Counts.{Counts}
-use Rattle.watcher.specs.Watch.{countOf, noCounts}
+use Rattle.watcher.specs.Counts.{countOf, noCounts}
 use Rattle.watcher.specs.inner.Counts.{addEvents, addAll, countsOver}
 use Rattle.watcher.specs.inner.Tables.{zeroCounts}
 

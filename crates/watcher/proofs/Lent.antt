@@ -13,11 +13,11 @@ use Rattle.table.specs.Row.{noRow}
 use Rattle.table.specs.declared.Row.{Row}
 use Rattle.table.proofs.Row as R
 use Rattle.table.proofs.Row.Laws as R′
-use Rattle.watcher.specs.declared.Watch.{Watch}
-use Rattle.watcher.specs.declared.Ticked.{Ticked}
-use Rattle.watcher.specs.Answer.{tickAnswer}
-use Rattle.watcher.proofs.Watch as T
-use Rattle.watcher.proofs.Watch.Laws as T′
+use Rattle.pass.specs.declared.Watch.{Watch}
+use Rattle.pass.specs.declared.Ticked.{Ticked}
+use Rattle.pass.specs.Answer.{tickAnswer}
+use Rattle.pass.proofs.Watch as T
+use Rattle.pass.proofs.Watch.Laws as T′
 
 -- The arguments of a tick, and of the lent rows also where they lie and for how long they are lent.
 pub record Lent : Type 0 where

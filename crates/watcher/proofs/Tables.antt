@@ -30,18 +30,18 @@ use Rattle.step.proofs.Systems.{run-valid}
 use Rattle.table.specs.declared.Outcome.the-variants.{Accepted, Refused}
 use Rattle.watcher.specs.declared.Counts.{Counts}
 use Rattle.watcher.specs.declared.Played.{Played}
-use Rattle.watcher.specs.declared.Ticked.{Ticked}
-use Rattle.watcher.specs.declared.Watch.{Watch}
-use Rattle.watcher.specs.Watch.{phasesOf, watchOf}
-use Rattle.watcher.specs.Answer.{firstNumber, refusedWith, answered, movedOn, tickAnswer}
+use Rattle.pass.specs.declared.Ticked.{Ticked}
+use Rattle.pass.specs.declared.Watch.{Watch}
+use Rattle.pass.specs.Watch.{phasesOf, watchOf}
+use Rattle.pass.specs.Answer.{firstNumber, refusedWith, answered, movedOn, tickAnswer}
 use Rattle.watcher.specs.inner.Counts.{AllRoom, addAll, countsOver}
 use Rattle.watcher.specs.inner.Tables.{tableTick, zeroCounts, stoppedBy, playedOver}
 use Rattle.watcher.specs.inner.Tables.{tablePlay}
-use Rattle.watcher.specs.inner.Pass.{begun, passOver, finished}
+use Rattle.pass.specs.inner.Pass.{begun, passOver, finished}
 use Rattle.watcher.proofs.Counting.{counts-few, counts-snoc}
-use Rattle.watcher.proofs.Passes.{pass-answer}
+use Rattle.pass.proofs.Passes.{pass-answer}
 use Rattle.table.specs.Limits.{mostRows}
-use Rattle.watcher.proofs.Records.{watch-phases, phases-watch}
+use Rattle.pass.proofs.Records.{watch-phases, phases-watch}
 
 pub rows-length : (table : Table) → length (table .rows) ≡ mostRows → tableValid table ≡ true
     → length (rowsOf table) ≡ table .count

@@ -40,10 +40,10 @@ use denote.Triple.Entry.{Args, Vals, Res, alive, onEntry}
 use denote.Triple.Spec.{tripleOf, Meets}
 use denote.Triple.Walked.{says, Stays, AllGo, walkOf, walked, walk-meets}
 use denote.Triple.Statement.{Contract, Triple}
-use Rattle.watcher.specs.declared.Watch.{Watch}
-use Rattle.watcher.proofs.Watch as T
+use Rattle.pass.specs.declared.Watch.{Watch}
+use Rattle.pass.proofs.Watch as T
 use Rattle.table.specs.Limits.{mostRows}
-use Rattle.watcher.proofs.Watch.Laws as T′
+use Rattle.pass.proofs.Watch.Laws as T′
 
 -- A record that has a machine value has a slot for each row.
 pub slots-all : (watch : Watch) (vs : List Val) → Is (T.the-row) watch vs

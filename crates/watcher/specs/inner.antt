@@ -1,4 +1,3 @@
 -- What need not be believed: it only follows the code, or is tied by theorems to what is.
-pub mod Pass
 pub mod Counts
 pub mod Tables

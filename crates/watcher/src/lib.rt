@@ -1,51 +1,20 @@
-// The watcher: it moves all rows of a table on by one tick. specs/Watch.antt and specs/Answer.antt
-// say what is right.
-//
-// A tick is one pass over the rows: each is tested for number 17, its phase for number 18, and
-// moved on. The pass is a value, so that rows that are lent (`tick_rows`) and rows of a table value
-// (`tick_table`) go the same way.
-mod pass;
+// The watcher: it moves all rows of a table on by one tick, which is one pass over them (crate
+// `pass`, whose specs/Watch.antt and specs/Answer.antt say what is right), and plays a trace.
 mod tally;
 
-use step::Events;
+use pass::Reply;
+use pass::Slot;
+use pass::Ticked;
+use pass::Watch;
 use step::Phase;
 use table::MOST_ROWS;
 use table::Outcome;
 use table::Row;
 use table::Table;
 ghost use mathlib.Core.Path.{_≡_};
-ghost use Prim.Native.Nat.{_+_, min};
-ghost use lib.ListN.{take};
-ghost use Rattle.table.specs.Limits.{mostRows};
-ghost use Rattle.watcher.specs.Watch.{startWatch};
-ghost use Rattle.watcher.specs.Answer.{tickAnswer};
+ghost use Rattle.pass.specs.Watch.{startWatch};
+ghost use Rattle.pass.specs.Answer.{tickAnswer};
 ghost use Rattle.watcher.specs.inner.Tables.{tableTick, tablePlay, stoppedBy};
-
-// The rows that a program can lend by `tick_lent`: one more than a table has, which is refused.
-pub const MOST_LENT: usize = MOST_ROWS + 1;
-
-// A row's place in the record.
-pub struct Slot {
-    pub phase: Phase,
-}
-
-// The watcher's state: the phase of each row, in file order. An unused row is waiting.
-pub struct Watch {
-    pub slots: [Slot; MOST_ROWS],
-}
-
-// What a tick says: whether it was taken, and what happened to each row, which is nothing if it was
-// refused.
-pub struct Reply {
-    pub outcome: Outcome,
-    pub events: [Events; MOST_ROWS],
-}
-
-// What a tick gives, and the state after it, which is the old one if it was refused.
-pub struct Ticked {
-    pub reply: Reply,
-    pub watch: Watch,
-}
 
 // How often each event happened to a row.
 pub struct Counts {
@@ -103,34 +72,6 @@ pub fn tick(signals: u8, rows: &[Row], watch: &mut Watch, letter: u8) -> Reply
     let ticked = tick_rows(signals, rows, *watch, letter);
     *watch = ticked.watch;
     ticked.reply
-}
-
-// How many rows are lent where `count` are asked for.
-fn rows_lent(count: usize) -> usize
-    ensures { λ r. ⌜ r ≡ min count (mostRows + 1) ⌝ }
-{
-    if count < MOST_LENT { count } else { MOST_LENT }
-}
-
-// One tick with rows and state by value: the first `count` rows, or all if there are fewer, and a
-// copy of the state are lent to `tick`. Refused with 17, 18 or 19, in this order; the state is then
-// the one that was passed.
-pub fn tick_lent(
-    signals: u8,
-    rows: [Row; MOST_LENT],
-    count: usize,
-    watch: Watch,
-    letter: u8,
-) -> Ticked
-    ensures { λ r. ⌜ r ≡ tickAnswer signals (take count rows) watch letter ⌝ }
-{
-    let n = rows_lent(count);
-    let mut state = watch;
-    let reply = tick(signals, &rows[..n], &mut state, letter);
-    Ticked {
-        reply,
-        watch: state,
-    }
 }
 
 // One tick of a table value. Refused with 17, 18 or 19, in this order; the state is then the one

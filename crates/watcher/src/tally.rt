@@ -5,7 +5,7 @@ use table::MOST_ROWS;
 ghost use Prim.Native.Nat.{_+_, _^_, _<_};
 ghost use mathlib.Core.Path.{_≡_};
 ghost use Rattle.letters.specs.Letter.{bit};
-ghost use Rattle.watcher.specs.Watch.{noCounts};
+ghost use Rattle.watcher.specs.Counts.{noCounts};
 ghost use Rattle.watcher.specs.inner.Counts.{Room, AllRoom, addEvents, addAll};
 
 // Nothing happened yet.

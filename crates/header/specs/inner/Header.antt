@@ -1,4 +1,4 @@
--- Which number lines 1 and 2 get, and what line 2 gives, computed.
+-- Which number lines 1 and 2 get, and what they give, computed.
 use Prim.Native.Nat.{ℕ}
 use mathlib.Core.Bool.{Bool, _&&_, cond}
 use mathlib.Core.List.{List, [], _∷_, map}
@@ -8,15 +8,18 @@ use Rattle.letters.specs.Lists.{every, sameBytes}
 use Rattle.table.specs.Limits.{mostSignals, nameLength}
 use Rattle.table.specs.Name.{isLowercase, allDistinct}
 use Rattle.text.specs.Words.{PNP, version1, signalsWord}
+use Rattle.text.specs.declared.Version.the-variants.{First}
 use Rattle.conditions.specs.Condition.{nameOf}
 use Rattle.header.specs.Header.{isDigit16, noName, namesFrom}
 use Rattle.header.specs.declared.Signals.{Signals}
+use Rattle.header.specs.declared.VersionRead.{VersionRead}
+use Rattle.header.specs.declared.VersionRead.the-variants.{Known, Refused}
 
--- 4, then 5.
-unfoldable pub headerNumber : List ℕ → ℕ
-headerNumber line =
+-- The version of line 1; or 4, then 5.
+unfoldable pub versionAnswer : List ℕ → VersionRead
+versionAnswer line =
     cond (eqb (length line) 8 && sameBytes (take 4 line) PNP && every isDigit16 (drop 4 line))
-    (cond (sameBytes (drop 4 line) version1) 0 5) 4
+    (cond (sameBytes (drop 4 line) version1) (Known First) (Refused 5)) (Refused 4)
 
 -- Whether bytes are a name.
 unfoldable pub nameShaped : List ℕ → Bool

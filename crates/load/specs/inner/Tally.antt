@@ -8,8 +8,8 @@ use Rattle.table.specs.Limits.{mostRows}
 use Rattle.step.specs.declared.Events.{Events}
 use Rattle.step.specs.declared.Phase.{Phase}
 use Rattle.step.specs.Events.{noEvents, isOpen}
-use Rattle.watcher.specs.declared.Watch.{Watch}
-use Rattle.watcher.specs.inner.Pass.{phaseAt}
+use Rattle.pass.specs.declared.Watch.{Watch}
+use Rattle.pass.specs.inner.Pass.{phaseAt}
 use Rattle.load.specs.declared.Sums.{Sums}
 use Rattle.load.specs.declared.Totals.{Totals}
 use Rattle.load.specs.Load.{noTotals}

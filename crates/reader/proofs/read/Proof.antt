@@ -6,34 +6,36 @@ use mathlib.Core.Path.{_≡_, sym, ap, _∙_}
 use lib.ListN.{length, getD}
 use Rattle.text.specs.inner.Cut.{front, lines}
 use Rattle.text.specs.Lines.{LF}
-use Rattle.header.specs.inner.Header.{headerNumber}
+use Rattle.header.specs.inner.Header.{versionAnswer}
 use Rattle.reader.specs.inner.File.{bodyAnswer}
 use Rattle.text.proofs.Parts.{part-front}
-use Rattle.reader.proofs.Lines.{read-empty, read-long, read-open, file-refused, file-body}
-use Rattle.reader.proofs.Lines.{after-part}
+use Rattle.reader.proofs.Lines.{read-empty, read-long, read-open, file-read, after-part}
 use borrow.Author.Needs.{needs}
 use Rattle.reader.proofs.read.Statement.{statement}
 use Rattle.reader.proofs.read.Tie as tie
 
--- what line 1 is found to be
-module _ (c : tie.After-check-header) where
-  abbrev bytes : List ℕ
-  bytes = c .before .before .before .before .before .before .before .before .args .bytes .now
+-- what line 1 is read as
+module _ (c : tie.After-read-version) where
+  abbrev at-end : tie.After-find
+  at-end = c .before .before .before
 
-  found : c .before .before .find .result ≡ length (front LF bytes)
-  found = c .before .before .find .ensures
+  abbrev bytes : List ℕ
+  bytes = at-end .before .before .before .before .before .before .args .bytes .now
+
+  found : at-end .find .result ≡ length (front LF bytes)
+  found = at-end .find .ensures
 
   some : length bytes ≡ 0 → ⊥
-  some = c .before .before .before .before .before .before .if1 .left
+  some = at-end .before .before .before .before .if1 .left
 
   short : length bytes ≤ 4096
-  short = omega (arith, c .before .before .before .before .before .if2 .left)
+  short = omega (arith, at-end .before .before .before .if2 .left)
 
   ended : getD bytes (length bytes - 1) 0 ≡ LF
-  ended = c .before .before .before .if3 .left
+  ended = at-end .before .if3 .left
 
-  number-is : c .check-header .result ≡ headerNumber (front LF bytes)
-  number-is = c .check-header .ensures ∙ ap headerNumber (part-front LF bytes found)
+  read-is : c .read-version .result ≡ versionAnswer (front LF bytes)
+  read-is = c .read-version .ensures ∙ ap versionAnswer (part-front LF bytes found)
 
 returns : tie.Need-returns
 returns c = c .refused .ensures ∙ sym (read-empty _ (c .before .if1 .taken))
@@ -48,33 +50,35 @@ returns-3 c =
     ∙ sym (read-open _ (c .before .before .before .before .if1 .left)
     (omega (arith, c .before .before .before .if2 .left)) (c .before .if3 .taken))
 
-slice-aggregate-check-header : tie.Need-slice-aggregate-check-header
-slice-aggregate-check-header c = c .before .find .ensures
-    ∙ ap length (sym (part-front LF _ (c .before .find .ensures)))
+slice-aggregate-read-version : tie.Need-slice-aggregate-read-version
+slice-aggregate-read-version c =
+    let f = c .before .before in
+    f .find .ensures ∙ ap length (sym (part-front LF _ (f .find .ensures)))
 
 returns-4 : tie.Need-returns-4
 returns-4 c =
-    let h = c .before .before in
-    c .refused4 .ensures
-    ∙ sym (file-refused (bytes h) (some h) (short h) (ended h) (h .check-header .result)
-    (number-is h) (c .before .if4 .taken))
+    let told = c .before .before .before in
+    let h = told .before .before in
+    let p = h .before .before in
+    c .read-body .ensures
+    ∙ ap (λ (l : List ℕ). bodyAnswer (told .version .given .0 .0) (lines l))
+    (after-part (bytes h) (p .before .find .result) (p .past .result) (found h) (p .past .ensures))
+    ∙ sym (file-read (bytes h) (some h) (short h) (ended h) _
+    (sym (told .version .given .1) ∙ read-is h))
 
 returns-5 : tie.Need-returns-5
 returns-5 c =
-    let h = c .before .before .before .before in
-    let p = c .before .before in
-    c .read-body .ensures
-    ∙ ap (λ (l : List ℕ). bodyAnswer (lines l))
-    (after-part (bytes h) (h .before .before .find .result) (p .past .result) (found h)
-    (p .past .ensures))
-    ∙ sym (file-body (bytes h) (some h) (short h) (ended h) (h .check-header .result) (number-is h)
-    (c .before .before .before .if4 .left))
+    let told = c .before .before in
+    let h = told .before .before in
+    c .refused4 .ensures
+    ∙ sym (file-read (bytes h) (some h) (short h) (ended h) _
+    (sym (told .number .given .1) ∙ read-is h))
 
 pub read-spec : {M : Type 1} → statement M
 read-spec =
     tie.close (tie.spec
     (λ c κs. search needs) returns (λ c κs. search needs) returns-2 (λ c. search needs)
     (λ c. search needs) (λ c κs. search needs) returns-3 (λ c κs. search needs)
-    slice-aggregate-check-header (λ c κs. search needs) (λ c κs. search needs) returns-4
-    (λ c κs. search needs) (λ c. search needs) (λ c. search needs) (λ c. search needs)
-    (λ c κs. search needs) returns-5)
+    (λ c κs. search needs) slice-aggregate-read-version (λ c κs. search needs)
+    (λ c. search needs) (λ c. search needs) (λ c. search needs) (λ c. search needs)
+    (λ c κs. search needs) (λ c. search needs) (λ c κs. search needs) returns-4 returns-5)

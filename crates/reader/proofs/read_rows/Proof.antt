@@ -24,12 +24,12 @@ use Rattle.reader.proofs.read_rows.Statement.{statement}
 use Rattle.reader.proofs.read_rows.Tie as tie
 
 abbrev Inv-loop : tie.InvT-loop
-Inv-loop rest names signals sets₀ bounds₀ n₀ at₀ sets bounds n at =
-    (reads : List RowRead) × (Gathering names signals rest reads sets bounds n at ×
+Inv-loop rest names signals version sets₀ bounds₀ n₀ at₀ sets bounds n at =
+    (reads : List RowRead) × (Gathering names signals version rest reads sets bounds n at ×
     ((at ≤ length rest + 1) × (1 ≤ length rest)))
 
 abbrev μ-loop : tie.MeasureT-loop
-μ-loop rest names signals sets₀ bounds₀ n₀ at₀ sets bounds n at = length rest + 1 - at
+μ-loop rest names signals version sets₀ bounds₀ n₀ at₀ sets bounds n at = length rest + 1 - at
 
 -- the line that a turn looks at
 module _ (c : tie.After-find Inv-loop μ-loop) where
@@ -66,7 +66,7 @@ module _ (c : tie.After-read-row Inv-loop μ-loop) where
   rule line =
       let start = turn (c .before .before) .before .before .before .before in
       rowAnswer (take (start .args .signals) (start .args .names)) (width (start .args .signals))
-      line
+      (start .args .version) line
 
   abbrev the-row : RowRead
   the-row = rule (front LF (drop (at (c .before .before)) (whole (c .before .before))))
@@ -75,17 +75,17 @@ module _ (c : tie.After-read-row Inv-loop μ-loop) where
   read-is = c .read-row .ensures ∙ ap rule (part (c .before .before))
 
 returns : tie.Need-returns Inv-loop μ-loop
-returns c = c .refused .ensures ∙ sym (rows-none _ _ _ (c .before .if1 .taken))
+returns c = c .refused .ensures ∙ sym (rows-none _ _ _ _ (c .before .if1 .taken))
 
 loop-holds : tie.Need-loop-holds Inv-loop μ-loop
-loop-holds c = ([], (gathering-starts _ _ _, (search needs, omega (arith, c .if1 .left))))
+loop-holds c = ([], (gathering-starts _ _ _ _, (search needs, omega (arith, c .if1 .left))))
 
 returns-2 : tie.Need-returns-2 Inv-loop μ-loop
 returns-2 c =
     let t = c .before .before in
     let inv = t .before .loop .inv .1 in
-    c .refused2 .ensures ∙ sym (rows-fault _ _ _ (inv .1 .1) _ _
-    (gathering-ninth _ _ _ _ _ _ _ _ (inv .0) (t .loop-test .taken) (c .before .if2 .taken)))
+    c .refused2 .ensures ∙ sym (rows-fault _ _ _ _ (inv .1 .1) _ _
+    (gathering-ninth _ _ _ _ _ _ _ _ _ (inv .0) (t .loop-test .taken) (c .before .if2 .taken)))
 
 add-end : tie.Need-add-end Inv-loop μ-loop
 add-end c = record { fits = omega (arith, fits c) }
@@ -101,8 +101,8 @@ returns-3 c =
     let inv = q .loop .inv .1 in
     c .refused3 .ensures ∙ ap (λ (x : RowRead). refusedFile (x .number) (q .loop .n + 3))
     (read-is r)
-    ∙ sym (rows-fault _ _ _ (inv .1 .1) _ _
-    (gathering-fault _ _ _ _ _ _ _ _ (inv .0) (turn f .loop-test .taken)
+    ∙ sym (rows-fault _ _ _ _ (inv .1 .1) _ _
+    (gathering-fault _ _ _ _ _ _ _ _ _ (inv .0) (turn f .loop-test .taken)
     (f .before .before .if2 .left)
     (λ z. c .before .if3 .taken (ap (λ (x : RowRead). x .number) (read-is r) ∙ z))))
 
@@ -119,7 +119,7 @@ loop-again c =
     let inv = q .loop .inv .1 in (
       q .loop .inv .0 ++ (r .read-row .result ∷ []),
       (
-        gathering-step _ _ _ _ _ _ _ _ (inv .0) (turn f .loop-test .taken)
+        gathering-step _ _ _ _ _ _ _ _ _ (inv .0) (turn f .loop-test .taken)
             (f .before .before .if2 .left) (r .read-row .result) (read-is r)
             (f .find .result) (found f) (c .before .before .if3 .left),
         (omega (arith, fits f), inv .1 .1),
@@ -144,9 +144,9 @@ returns-4 c =
           };
     })
     (sym (length-map (q .loop .inv .0) rowOf ∙ g .many))
-    (c .rows-of .ensures ∙ gathered-all _ _ _ _ _ _ _ _ g)
-    ∙ sym (rows-accepted _ _ _ (inv .1 .1) _
-    (gathering-ends _ _ _ _ _ _ _ _ g (c .before .loop-test .left)))
+    (c .rows-of .ensures ∙ gathered-all _ _ _ _ _ _ _ _ _ g)
+    ∙ sym (rows-accepted _ _ _ _ (inv .1 .1) _
+    (gathering-ends _ _ _ _ _ _ _ _ _ g (c .before .loop-test .left)))
 
 pub read-rows-spec : {M : Type 1} → statement M
 read-rows-spec =

@@ -9,9 +9,12 @@ use Rattle.table.specs.Limits.{mostBytes, mostRows}
 use Rattle.table.specs.declared.Name.{Name}
 use Rattle.table.specs.declared.Row.{Row}
 use Rattle.text.specs.Lines.{LF, space}
+use Rattle.text.specs.declared.Version.{Version}
 use Rattle.text.specs.inner.Cut.{split, lines}
-use Rattle.header.specs.inner.Header.{headerNumber, signalsAnswer}
+use Rattle.header.specs.inner.Header.{versionAnswer, signalsAnswer}
 use Rattle.header.specs.declared.Signals.{Signals}
+use Rattle.header.specs.declared.VersionRead.{VersionRead}
+use Rattle.header.specs.declared.VersionRead.the-variants.{Known, Refused}
 use Rattle.rows.specs.inner.Row.{rowFrom, rowAnswer}
 use Rattle.rows.specs.declared.RowRead.{RowRead}
 use Rattle.reader.specs.Reading.{tableFrom, accepted, refusedFile}
@@ -29,11 +32,11 @@ afterRow row (fault number line) = fault number line
 abbrev pub rowOf : RowRead → Row
 rowOf read = rowFrom (read .sets) (read .bounds)
 
-module _ (names : List Name) (signals : ℕ) where
+module _ (names : List Name) (signals : ℕ) (version : Version) where
   unfoldable pub rowsFrom : ℕ → List (List ℕ) → Rows
   rowsFrom i [] = rowsRead []
   rowsFrom i (line ∷ more) =
-      let read = rowAnswer (take signals names) (width signals) line in
+      let read = rowAnswer (take signals names) (width signals) version line in
       let rest = rowsFrom (i + 1) more in
       cond (ltb i mostRows) (cond (eqb (read .number) 0) (afterRow (rowOf read) rest)
       (fault (read .number) (i + 3)))
@@ -49,20 +52,24 @@ module _ (names : List Name) (signals : ℕ) where
   rowsAnswer (line ∷ more) = rowsReading (rowsFrom 0 (line ∷ more))
 
 -- From line 2 on.
-abbrev pub afterSignals : Signals → List (List ℕ) → Reading
-afterSignals read more =
-    cond (eqb (read .number) 0) (rowsAnswer (read .names) (read .count) more)
-    (refusedFile (read .number) 2)
+module _ (version : Version) where
+  abbrev pub afterSignals : Signals → List (List ℕ) → Reading
+  afterSignals read more =
+      cond (eqb (read .number) 0) (rowsAnswer (read .names) (read .count) version more)
+      (refusedFile (read .number) 2)
 
-unfoldable pub bodyAnswer : List (List ℕ) → Reading
-bodyAnswer [] = refusedFile 6 2
-bodyAnswer (line ∷ more) = afterSignals (signalsAnswer (split space line)) more
+  unfoldable pub bodyAnswer : List (List ℕ) → Reading
+  bodyAnswer [] = refusedFile 6 2
+  bodyAnswer (line ∷ more) = afterSignals (signalsAnswer (split space line)) more
 
 -- From line 1 on.
+abbrev pub afterVersion : VersionRead → List (List ℕ) → Reading
+afterVersion (Known version) more = bodyAnswer version more
+afterVersion (Refused number) more = refusedFile number 1
+
 unfoldable pub fileAnswer : List (List ℕ) → Reading
 fileAnswer [] = refusedFile 4 1
-fileAnswer (line ∷ more) = cond (eqb (headerNumber line) 0) (bodyAnswer more)
-    (refusedFile (headerNumber line) 1)
+fileAnswer (line ∷ more) = afterVersion (versionAnswer line) more
 
 -- 1, 2, 3, then the lines from the top.
 unfoldable pub readAnswer : List ℕ → Reading

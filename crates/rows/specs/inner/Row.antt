@@ -9,6 +9,7 @@ use Rattle.table.specs.declared.Name.{Name}
 use Rattle.table.specs.declared.Row.{Row}
 use Rattle.text.specs.Lines.{comma, count}
 use Rattle.text.specs.Words.{ruleWord}
+use Rattle.text.specs.declared.Version.{Version}
 use Rattle.text.specs.inner.Cut.{startsWith, split}
 use Rattle.text.specs.inner.Bounds.{boundOf}
 use Rattle.text.specs.declared.Bound.{Bound}
@@ -89,7 +90,7 @@ judgedRow v =
     (record { number = 0; sets = setsFrom v; bounds = boundsFrom v })
     (rowRefused 15)
 
--- 10, then the fields from the left, then 15.
+-- 10, then the fields from the left, then 15, in a file of any version.
 abbrev pub ruleShaped : List ℕ → Bool
 ruleShaped line = startsWith ruleWord line && eqb (count comma line) 11
 
@@ -101,6 +102,6 @@ rowFields fields =
 abbrev pub lineFields : List Name → ℕ → List ℕ → List Field
 lineFields names n line = fieldsOf names n 0 (split comma (drop 5 line))
 
-unfoldable pub rowAnswer : List Name → ℕ → List ℕ → RowRead
-rowAnswer names n line =
+unfoldable pub rowAnswer : List Name → ℕ → Version → List ℕ → RowRead
+rowAnswer names n version line =
     cond (ruleShaped line) (rowFields (lineFields names n line)) (rowRefused 10)

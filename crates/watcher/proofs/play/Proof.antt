@@ -7,7 +7,7 @@ use native.Mathlib.Omega.{arith}
 use mathlib.Core.Path.{sym, ap, _∙_}
 use lib.ListN.{length}
 use Rattle.table.specs.declared.Outcome.{Outcome}
-use Rattle.watcher.specs.declared.Ticked.{Ticked}
+use Rattle.pass.specs.declared.Ticked.{Ticked}
 use Rattle.watcher.proofs.Tables.{Playing, playing-refused, playing-starts, playing-next}
 use Rattle.watcher.proofs.Tables.{playing-room, playing-stops, playing-ends}
 use Rattle.watcher.proofs.play.Statement.{statement}

@@ -41,7 +41,7 @@ use denote.Triple.Spec.{Meets}
 use denote.Triple.Table.{entered, cited}
 use denote.Triple.Walked.{Stays, stay-ref, stay-dropped, walkOf, goes-ref, ends-at}
 use Rattle.table.proofs.Row as R
-use Rattle.watcher.specs.declared.Ticked.{Ticked}
+use Rattle.pass.specs.declared.Ticked.{Ticked}
 use Rattle.watcher.proofs.Lent.{Lent, lentOf, Typed, signalsVal, letterVal, token, tickArgs}
 use Rattle.watcher.proofs.Lent.{rowsVal, rowsArgs, rowsVals, RowsOwn, stateVal, answer}
 use Rattle.watcher.proofs.Lent.{LentState, lentStateOf, stateToken, statePtr, tickVals}
@@ -49,12 +49,12 @@ use Rattle.watcher.proofs.Walks.{CallContract, fits, holds, holds-uint,
 use Rattle.watcher.proofs.Walks.{part-copied}
 use Rattle.watcher.proofs.Walks.{given-back, allots, frees-all, has, frame, falling, paired}
 use Rattle.watcher.proofs.Walks.{says-both, shown}
-use Rattle.watcher.proofs.Watch as T
-use Rattle.watcher.proofs.Watch.Laws as T′
-use Rattle.watcher.proofs.Reply as Y
-use Rattle.watcher.proofs.Reply.Laws as Y′
-use Rattle.watcher.proofs.Ticked as D
-use Rattle.watcher.proofs.Ticked.Laws as D′
+use Rattle.pass.proofs.Watch as T
+use Rattle.pass.proofs.Watch.Laws as T′
+use Rattle.pass.proofs.Reply as Y
+use Rattle.pass.proofs.Reply.Laws as Y′
+use Rattle.pass.proofs.Ticked as D
+use Rattle.pass.proofs.Ticked.Laws as D′
 use Rattle.watcher.proofs.tick_rows as rows
 use Rattle.watcher.proofs.tick_rows.Symbol as rows-def
 use Rattle.watcher.proofs.tick_rows.Symbol.{name as #tick-rows}

@@ -43,33 +43,33 @@ use denote.Triple.Spec.{Meets}
 use denote.Triple.Table.{entered, cited}
 use denote.Triple.Walked.{says, Stays, stay-dropped, walkOf, ends-at}
 use Rattle.table.proofs.Row as R
-use Rattle.watcher.specs.declared.Ticked.{Ticked}
-use Rattle.watcher.specs.declared.pass.Pass.{Pass}
-use Rattle.watcher.specs.inner.Pass.{begun, passOver, finished}
-use Rattle.watcher.proofs.Passes.{pass-end, pass-answer}
+use Rattle.pass.specs.declared.Ticked.{Ticked}
+use Rattle.pass.specs.declared.Pass.{Pass}
+use Rattle.pass.specs.inner.Pass.{begun, passOver, finished}
+use Rattle.pass.proofs.Passes.{pass-end, pass-answer}
 use Rattle.watcher.proofs.Lent.{Lent, lentOf, Typed, count, signalsVal, letterVal, token}
 use Rattle.watcher.proofs.Lent.{rowsVal, stateVal, answer, rowsArgs, rowsVals}
 use Rattle.watcher.proofs.Walks.{slots-all, CallContract, fits, made, made-uint, holds, spot}
 use Rattle.watcher.proofs.Walks.{copied, part-copied, calls-plain, allots, frees-all, has}
 use Rattle.watcher.proofs.Walks.{falling, paired, shown}
-use Rattle.watcher.proofs.Watch as T
-use Rattle.watcher.proofs.Watch.Laws as T′
-use Rattle.watcher.proofs.Ticked as D
-use Rattle.watcher.proofs.Ticked.Laws as D′
-use Rattle.watcher.proofs.pass.Pass as P
-use Rattle.watcher.proofs.pass.Pass.Laws as P′
-use Rattle.watcher.proofs.pass.begin as begin
-use Rattle.watcher.proofs.pass.begin.Symbol as begin-def
-use Rattle.watcher.proofs.pass.begin.Symbol.{name as #begin}
-use Rattle.watcher.proofs.pass.begin.Met as begin-thm
-use Rattle.watcher.proofs.pass.take_row as take
-use Rattle.watcher.proofs.pass.take_row.Symbol as take-def
-use Rattle.watcher.proofs.pass.take_row.Symbol.{name as #take-row}
-use Rattle.watcher.proofs.pass.take_row.Met as take-thm
-use Rattle.watcher.proofs.pass.finish as finish
-use Rattle.watcher.proofs.pass.finish.Symbol as finish-def
-use Rattle.watcher.proofs.pass.finish.Symbol.{name as #finish}
-use Rattle.watcher.proofs.pass.finish.Met as finish-thm
+use Rattle.pass.proofs.Watch as T
+use Rattle.pass.proofs.Watch.Laws as T′
+use Rattle.pass.proofs.Ticked as D
+use Rattle.pass.proofs.Ticked.Laws as D′
+use Rattle.pass.proofs.Pass as P
+use Rattle.pass.proofs.Pass.Laws as P′
+use Rattle.pass.proofs.begin as begin
+use Rattle.pass.proofs.begin.Symbol as begin-def
+use Rattle.pass.proofs.begin.Symbol.{name as #begin}
+use Rattle.pass.proofs.begin.Met as begin-thm
+use Rattle.pass.proofs.take_row as take
+use Rattle.pass.proofs.take_row.Symbol as take-def
+use Rattle.pass.proofs.take_row.Symbol.{name as #take-row}
+use Rattle.pass.proofs.take_row.Met as take-thm
+use Rattle.pass.proofs.finish as finish
+use Rattle.pass.proofs.finish.Symbol as finish-def
+use Rattle.pass.proofs.finish.Symbol.{name as #finish}
+use Rattle.pass.proofs.finish.Met as finish-thm
 use Rattle.watcher.proofs.tick_rows.Key.{name as #tick-rows}
 use Rattle.watcher.proofs.tick_rows as here
 use Rattle.watcher.proofs.tick_rows.Statement as stated
@@ -256,10 +256,10 @@ tick-rows-spec 𝓤 H 𝓜 𝓖 𝓡 =
     (code.unfolded 𝓤 H 𝓜 𝓡) (meets 𝓤 H (𝓖 .A) (givenOf 𝓤 H 𝓜 𝓖) (𝓜 .mem)
     (𝓡 .run)
     (tablesOf 𝓤 H 𝓜 (tables 𝓤 H 𝓜 𝓡 code.env)) (record {
-      begins = cited 𝓤 H _ 𝓜 𝓡 code.env #begin begin-def.routine code.calls-watcher·pass·begin
+      begins = cited 𝓤 H _ 𝓜 𝓡 code.env #begin begin-def.routine code.calls-pass·begin
           (begin-thm.met 𝓤 H 𝓜 𝓖 𝓡);
-      takes = cited 𝓤 H _ 𝓜 𝓡 code.env #take-row take-def.routine code.calls-watcher·pass·take-row
+      takes = cited 𝓤 H _ 𝓜 𝓡 code.env #take-row take-def.routine code.calls-pass·take-row
           (take-thm.met 𝓤 H 𝓜 𝓖 𝓡);
       finishes = cited 𝓤 H _ 𝓜 𝓡 code.env #finish finish-def.routine
-          code.calls-watcher·pass·finish (finish-thm.met 𝓤 H 𝓜 𝓖 𝓡);
+          code.calls-pass·finish (finish-thm.met 𝓤 H 𝓜 𝓖 𝓡);
     }))

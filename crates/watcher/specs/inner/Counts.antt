@@ -6,7 +6,7 @@ use Rattle.letters.specs.Letter.{bit}
 use Rattle.step.specs.declared.Events.{Events}
 use Rattle.step.specs.Events.{Event}
 use Rattle.watcher.specs.declared.Counts.{Counts}
-use Rattle.watcher.specs.Watch.{countOf, noCounts}
+use Rattle.watcher.specs.Counts.{countOf, noCounts}
 
 -- One more fits each count.
 abbrev pub Room : Counts → Type 0

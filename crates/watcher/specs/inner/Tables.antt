@@ -16,10 +16,11 @@ use Rattle.step.specs.Events.{traceEvents}
 use Rattle.step.specs.Valid.{phasesValid}
 use Rattle.watcher.specs.declared.Counts.{Counts}
 use Rattle.watcher.specs.declared.Played.{Played}
-use Rattle.watcher.specs.declared.Ticked.{Ticked}
-use Rattle.watcher.specs.declared.Watch.{Watch}
-use Rattle.watcher.specs.Watch.{phasesOf, watchOf, noCounts}
-use Rattle.watcher.specs.Answer.{firstNumber, answered, refusedWith, movedOn}
+use Rattle.pass.specs.declared.Ticked.{Ticked}
+use Rattle.pass.specs.declared.Watch.{Watch}
+use Rattle.pass.specs.Watch.{phasesOf, watchOf}
+use Rattle.watcher.specs.Counts.{noCounts}
+use Rattle.pass.specs.Answer.{firstNumber, answered, refusedWith, movedOn}
 use Rattle.watcher.specs.inner.Counts.{countsOver}
 
 -- A tick of a table value, of which number 17 tests every place.

@@ -6,7 +6,7 @@ use mathlib.Core.Path.{_≡_}
 use lib.ListN.{length}
 use Rattle.table.specs.Limits.{mostRows}
 use Rattle.letters.proofs.Filling.{Filled, filled-none, filled-next}
-use Rattle.watcher.specs.Watch.{noCounts}
+use Rattle.watcher.specs.Counts.{noCounts}
 use Rattle.watcher.proofs.Counting.{addedAt, added-filled}
 use Rattle.watcher.proofs.tally.added.Statement.{statement}
 use Rattle.watcher.proofs.tally.added.Tie as tie

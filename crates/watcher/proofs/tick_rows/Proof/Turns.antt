@@ -31,18 +31,18 @@ use denote.Triple.Statement.{Triple}
 use Rattle.table.specs.Row.{noRow}
 use Rattle.table.proofs.Row as R
 use Rattle.table.proofs.Row.Laws as R′
-use Rattle.watcher.specs.declared.pass.Pass.{Pass}
-use Rattle.watcher.specs.inner.Pass.{begun, rowTaken, passOver}
-use Rattle.watcher.proofs.Passes.{pass-next}
+use Rattle.pass.specs.declared.Pass.{Pass}
+use Rattle.pass.specs.inner.Pass.{begun, rowTaken, passOver}
+use Rattle.pass.proofs.Passes.{pass-next}
 use Rattle.watcher.proofs.Lent.{Lent, Typed, count, signalsVal, letterVal, token, rowsVal}
 use Rattle.watcher.proofs.Lent.{RowsOwn, row, rowVal, rowBytes, rowPlace, stateVal}
 use Rattle.watcher.proofs.Walks.{CallContract, fits, made, made-uint, spot, copied}
 use Rattle.watcher.proofs.Walks.{part-copied}
 use Rattle.watcher.proofs.Walks.{calls-plain, frame, has, room, deaths}
-use Rattle.watcher.proofs.pass.Pass as P
-use Rattle.watcher.proofs.pass.Pass.Laws as P′
-use Rattle.watcher.proofs.pass.take_row as take
-use Rattle.watcher.proofs.pass.take_row.Symbol.{name as #take-row}
+use Rattle.pass.proofs.Pass as P
+use Rattle.pass.proofs.Pass.Laws as P′
+use Rattle.pass.proofs.take_row as take
+use Rattle.pass.proofs.take_row.Symbol.{name as #take-row}
 use Rattle.watcher.proofs.tick_rows.Code as code
 use Rattle.watcher.proofs.tick_rows.Code.Mir as mir′
 
