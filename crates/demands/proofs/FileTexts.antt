@@ -13,7 +13,7 @@ use Rattle.letters.proofs.Bits.{width-letters}
 use Rattle.letters.proofs.Lists.{and-left, and-right}
 use Rattle.table.specs.Limits.{mostBytes, conditions}
 use Rattle.table.specs.Row.{rowValid}
-use Rattle.table.specs.Valid.{rowsOf}
+use Rattle.table.specs.Valid.{rowsOf, tableFrom}
 use Rattle.table.specs.declared.Name.{Name}
 use Rattle.table.specs.declared.Row.{Row}
 use Rattle.table.specs.declared.Table.{Table}
@@ -26,7 +26,6 @@ use Rattle.header.specs.Header.{namesFrom}
 use Rattle.rows.specs.Row.{fieldKinds, IsRow}
 use Rattle.rows.proofs.Rules.{six-places}
 use Rattle.reader.specs.Grammar.{Each, none, and, AreRows, IsFile}
-use Rattle.reader.specs.Reading.{tableFrom}
 use Rattle.reader.proofs.Files as Files
 use Rattle.reader.proofs.Files.{Six}
 use Rattle.reader.proofs.RowLines.{textsOf, rowLine, line-row}

@@ -15,8 +15,8 @@ use Rattle.letters.specs.Lists.{every}
 use Rattle.letters.proofs.Lists.{and-left, and-right, and-four}
 use Rattle.table.specs.Limits.{mostBytes, mostSignals, mostRows, conditions}
 use Rattle.table.specs.Name.{nameValid, nameUnused, allDistinct}
-use Rattle.table.specs.Row.{isZero, noRow, rowValid, rowUnused}
-use Rattle.table.specs.Valid.{namesValid, rowsOf, tableValid}
+use Rattle.table.specs.Row.{isZero, noRow, rowValid, rowUnused, zeroRow}
+use Rattle.table.specs.Valid.{namesValid, rowsOf, tableValid, tableFrom}
 use Rattle.table.specs.declared.Name.{Name}
 use Rattle.table.specs.declared.Row.{Row}
 use Rattle.table.specs.declared.Table.{Table}
@@ -30,7 +30,6 @@ use Rattle.conditions.specs.Condition.{nameOf, IsName}
 use Rattle.header.specs.Header.{versionLine, noName, namesFrom, IsSignals}
 use Rattle.header.proofs.Shapes.{signals-free}
 use Rattle.rows.proofs.Rules.{row-free}
-use Rattle.reader.specs.Reading.{zeroRow, tableFrom}
 use Rattle.reader.specs.Grammar.{none, and, AreLines, FileLines, AreRows, IsFile}
 use Rattle.reader.specs.Grammar.{ofLines}
 use Rattle.reader.specs.Sized.{Sized}

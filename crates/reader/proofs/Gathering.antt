@@ -10,6 +10,8 @@ use lib.ListN.{length, getD, take, drop, set, replicate, length-append, length-m
 use Rattle.letters.specs.Letter.{width}
 use Rattle.letters.proofs.Filling.{Filled, filled-all}
 use Rattle.table.specs.Limits.{mostRows}
+use Rattle.table.specs.Row.{zeroRow}
+use Rattle.table.specs.Valid.{tableFrom}
 use Rattle.table.specs.declared.Outcome.the-variants.{Accepted}
 use Rattle.table.specs.declared.Name.{Name}
 use Rattle.table.specs.declared.Row.{Row}
@@ -20,7 +22,7 @@ use Rattle.text.proofs.Joins.{lines-cons}
 use Rattle.header.proofs.SignalLaws.{added-few, length-none}
 use Rattle.rows.specs.declared.RowRead.{RowRead}
 use Rattle.rows.specs.inner.Row.{rowFrom, rowAnswer}
-use Rattle.reader.specs.Reading.{zeroRow, refusedFile, tableFrom}
+use Rattle.reader.specs.Reading.{refusedFile}
 use Rattle.reader.specs.inner.File.{Rows, rowsRead, fault, afterRow, rowOf, rowsFrom}
 use Rattle.reader.specs.inner.File.{rowsReading, rowsAnswer}
 use Rattle.reader.specs.inner.Gathering.{gathered}

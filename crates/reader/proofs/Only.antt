@@ -10,6 +10,7 @@ use lib.ListN.{length, getD, take, length-append, length-map}
 use lib.Seq.{length-take-le, take-all, take-at, getD-append-seam}
 use Rattle.letters.specs.Letter.{width}
 use Rattle.table.specs.Limits.{mostBytes, mostRows}
+use Rattle.table.specs.Valid.{tableFrom}
 use Rattle.table.specs.declared.Row.{Row}
 use Rattle.table.specs.declared.Table.{Table}
 use Rattle.text.specs.Lines.{LF, space, ended}
@@ -26,7 +27,7 @@ use Rattle.header.proofs.Shapes.{signals-many, signals-twice, signals-read, sig
 use Rattle.rows.specs.inner.Row.{rowAnswer}
 use Rattle.rows.specs.declared.RowRead.{RowRead}
 use Rattle.rows.proofs.Rules.{row-read, fault-read}
-use Rattle.reader.specs.Reading.{tableFrom, accepted, refusedFile}
+use Rattle.reader.specs.Reading.{accepted, refusedFile}
 use Rattle.reader.specs.Grammar.{AreLines, FileLines, HasHeader, Each, none, and, AreRows}
 use Rattle.reader.specs.Grammar.{Fault, HasRows, ofLines}
 use Rattle.reader.specs.Right.{RightReading, is1, is2, is3, is4, is5, is6missing, is6, is7}

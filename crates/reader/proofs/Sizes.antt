@@ -9,7 +9,7 @@ use lib.ListN.{List·getD-append, getD-replicate}
 use lib.Seq.{length-take-le, getD-append-add}
 use Rattle.letters.proofs.Padding.{padded-length, padded-at, padded-beyond}
 use Rattle.table.specs.Limits.{mostSignals, mostRows, nameLength, conditions}
-use Rattle.table.specs.Row.{noRow}
+use Rattle.table.specs.Row.{noRow, zeroRow}
 use Rattle.table.specs.declared.Name.{Name}
 use Rattle.table.specs.declared.Row.{Row}
 use Rattle.table.specs.declared.Table.{Table}
@@ -19,7 +19,6 @@ use Rattle.header.specs.Header.{noName, namesFrom}
 use Rattle.rows.specs.Row.{IsRow}
 use Rattle.rows.proofs.Rules.{row-same}
 use Rattle.reader.specs.Grammar.{Each, none, and, HasRows, IsFile, ofLines}
-use Rattle.reader.specs.Reading.{zeroRow}
 use Rattle.reader.specs.Sized.{Sized}
 use Rattle.reader.proofs.Files.{Six}
 

@@ -3,27 +3,27 @@ use Prim.Native.Nat.{ℕ, zero, suc, _-_, _^_, _<_, _≤_}
 use borrow.Author.Tests.{le-leb, lt-ltb}
 use native.Mathlib.Omega.{arith}
 use native.Mathlib.Nat.{lt-of-lt-of-le}
-use mathlib.Core.Bool.{Bool, true}
+use mathlib.Core.Bool.{true}
 use mathlib.Core.List.{List, map}
 use mathlib.Core.Path.{_≡_, refl, sym, subst}
 use lib.ListN.{length, getD, replicate, length-map}
 use lib.Pow.{pow-mono}
-use lib.Seq.{take-at, drop-at}
+use lib.Seq.{drop-at}
 use Rattle.letters.specs.Letter.{letters, width, setValid}
 use Rattle.letters.specs.Lists.{every}
+use Rattle.letters.proofs.Lists.{every-replicate}
 use Rattle.letters.proofs.Sets.{setOf-lt}
 use Rattle.table.specs.Limits.{mostSignals, mostRows, mostTicks}
-use Rattle.table.specs.Row.{rowValid, rowUnused}
+use Rattle.table.specs.Row.{rowValid}
 use Rattle.table.specs.Name.{nameValid, nameUnused}
 use Rattle.table.specs.Valid.{rowsValid, namesValid, tableValid}
 use Rattle.table.specs.declared.Name.{Name}
 use Rattle.table.specs.declared.Row.{Row}
 use Rattle.table.specs.declared.Table.{Table}
-use Rattle.table.proofs.Laws.{counts-right}
+use Rattle.table.proofs.Laws.{counts-right, tableFrom-valid}
 use Rattle.conditions.specs.Condition.{IsName, nameOf, holdsAt}
 use Rattle.conditions.proofs.Places.{nameOf-valid}
 use Rattle.header.specs.Header.{noName, namesFrom}
-use Rattle.reader.specs.Reading.{zeroRow}
 use Rattle.reader.specs.Grammar.{Each, none, and, HasRows, IsFile, ofLines}
 use Rattle.reader.proofs.Only.{names-taken}
 use Rattle.text.specs.Lines.{All, none as all-none, and as all-and}
@@ -34,19 +34,9 @@ use Rattle.rows.specs.Row.{none as nothing, and as also, rowValues, Ordered, Is
 use Rattle.rows.proofs.Rules.{rowOf, row-same}
 
 -- Places that are not used.
-every-same : {A : Type 0} (test : A → Bool) (x : A) → test x ≡ true → (k : ℕ)
-    → every test (replicate k x) ≡ true
-unfolding every
-every-same test x e zero = refl
-every-same test x e (suc k) = rw e (every-same test x e k)
-
 no-name : nameUnused noName ≡ true
 unfolding nameUnused every
 no-name = refl
-
-zero-row : rowUnused zeroRow ≡ true
-unfolding rowUnused every
-zero-row = refl
 
 -- Names.
 names-valid : (names : List (List ℕ)) → All IsName names → every nameValid (map nameOf names) ≡ true
@@ -137,23 +127,19 @@ module _ (bytes : List ℕ) (t : Table) (f : HasRows bytes t) where
         names-valid (f .file .names) (f .header .has-names .signals .named),
         f .header .differ,
       )
-      (every-same nameUnused noName no-name (mostSignals - s))
+      (every-replicate nameUnused noName no-name (mostSignals - s))
+
+  rows-are-valid : rowsValid s (f .rows) ≡ true
+  unfolding rowsValid
+  rows-are-valid =
+      rw (counts-right s (length (f .rows)) (f .header .has-names .signals .some) (f .header .few)
+      (f .rows-some) (f .rows-few))
+      (rows-valid known s (f .file .rules) (f .rows) (f .rows-are))
 
   lines-valid : tableValid t ≡ true
-  unfolding tableValid rowsValid
   lines-valid =
-      let many = length (f .rows) in
-      let free = replicate (mostRows - many) zeroRow in
-      rw (
-        f .table-is,
-        take-at (f .rows) free many refl,
-        drop-at (f .rows) free many refl,
-        counts-right s many (f .header .has-names .signals .some) (f .header .few) (f .rows-some)
-            (f .rows-few),
-        rows-valid known s (f .file .rules) (f .rows) (f .rows-are),
-        names-are-valid,
-      )
-      (every-same rowUnused zeroRow zero-row (mostRows - many))
+      rw (f .table-is)
+      (tableFrom-valid s (namesFrom (f .file .names)) (f .rows) rows-are-valid names-are-valid)
 
 pub file-valid : (bytes : List ℕ) (t : Table) → IsFile bytes t → tableValid t ≡ true
 file-valid bytes t (ofLines f) = lines-valid bytes t f

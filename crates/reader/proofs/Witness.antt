@@ -11,7 +11,7 @@ use lib.ListN.{length, length-append, length-map}
 use lib.Seq.{take-at}
 use Rattle.letters.specs.Letter.{width}
 use Rattle.table.specs.Limits.{mostBytes}
-use Rattle.table.specs.Valid.{rowsOf, tableValid}
+use Rattle.table.specs.Valid.{rowsOf, tableValid, tableFrom}
 use Rattle.table.specs.declared.Row.{Row}
 use Rattle.table.specs.declared.Table.{Table}
 use Rattle.table.proofs.Laws.{tableValid-count, tableValid-signals}
@@ -21,7 +21,6 @@ use Rattle.text.specs.declared.Version.the-variants.{First}
 use Rattle.text.proofs.Joins.{joined-length}
 use Rattle.conditions.specs.Condition.{nameOf, IsName}
 use Rattle.header.specs.Header.{versionLine, namesFrom}
-use Rattle.reader.specs.Reading.{tableFrom}
 use Rattle.reader.specs.Grammar.{AreRows}
 use Rattle.reader.specs.Sized.{Sized}
 use Rattle.reader.specs.further.Witness.{Witnessed}

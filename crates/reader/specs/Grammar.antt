@@ -7,6 +7,7 @@ use lib.ListN.{length}
 use Rattle.letters.specs.Letter.{width}
 use Rattle.table.specs.Limits.{mostBytes, mostSignals, mostRows}
 use Rattle.table.specs.Name.{allDistinct}
+use Rattle.table.specs.Valid.{tableFrom}
 use Rattle.table.specs.declared.Row.{Row}
 use Rattle.table.specs.declared.Table.{Table}
 use Rattle.text.specs.Lines.{LF, ended, Free}
@@ -14,7 +15,6 @@ use Rattle.text.specs.declared.Version.{Version}
 use Rattle.conditions.specs.Condition.{nameOf}
 use Rattle.header.specs.Header.{versionLine, IsSignals, namesFrom}
 use Rattle.rows.specs.Row.{IsRow, RowFault}
-use Rattle.reader.specs.Reading.{tableFrom}
 
 -- "Lines end with LF (byte 10)." The bytes are these lines, which is to say that numbers 1, 2 and 3
 -- let them by.

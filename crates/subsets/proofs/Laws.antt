@@ -7,13 +7,11 @@ use mathlib.Core.Path.{_≡_}
 use lib.ListN.{length}
 use Rattle.letters.specs.Letter.{bitAt}
 use Rattle.letters.specs.Sets.{picked}
-use Rattle.letters.proofs.Lists.{within-true}
 use Rattle.letters.proofs.Picked.{picked-every, picked-le, picked-some}
-use Rattle.table.specs.Limits.{mostSignals, mostRows}
 use Rattle.table.specs.Row.{rowValid, noRow}
 use Rattle.table.specs.Valid.{rowsValid, rowsOf, tableValid}
 use Rattle.table.specs.declared.Table.{Table}
-use Rattle.table.proofs.Laws.{rowsValid-signals, rowsValid-count, rowsValid-rows}
+use Rattle.table.proofs.Laws.{counts-right, rowsValid-signals, rowsValid-count, rowsValid-rows}
 use Rattle.table.proofs.Laws.{tableValid-rows, tableValid-names, tableFrom-rows, tableFrom-valid}
 use Rattle.subsets.specs.Subtable.{subtable}
 
@@ -32,11 +30,8 @@ module _ (set : ℕ) (table : Table) where
         let rows = tableValid-rows table fits in
         let known = rowsValid-signals s all rows in
         let many = rowsValid-count s all rows in
-        rw (
-          within-true 1 mostSignals s (known .0) (known .1),
-          within-true 1 mostRows (length (picked set all)) (picked-some set noRow all i low some)
-              (omega (arith, picked-le set all, many .1)),
-        )
+        rw (counts-right s (length (picked set all)) (known .0) (known .1)
+        (picked-some set noRow all i low some) (omega (arith, picked-le set all, many .1)))
         (picked-every set (rowValid s) all (rowsValid-rows s all rows))
 
     pub subtable-valid : tableValid (subtable set table) ≡ true

@@ -4,7 +4,7 @@ use lib.ListN.{length}
 use mathlib.Core.Path.{_≡_}
 use Rattle.table.specs.Limits.{mostRows}
 use Rattle.letters.proofs.Filling.{Filled, filled-first, filled-next}
-use Rattle.reader.specs.Reading.{zeroRow}
+use Rattle.table.specs.Row.{zeroRow}
 use Rattle.reader.proofs.Gathering.{rowAt, gathered-filled}
 use Prim.Native.Nat.{_-_}
 use native.Mathlib.Omega.{arith}

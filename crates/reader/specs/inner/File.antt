@@ -6,6 +6,7 @@ use lib.Dec.{ltb, eqb}
 use lib.ListN.{length, getD, take}
 use Rattle.letters.specs.Letter.{width}
 use Rattle.table.specs.Limits.{mostBytes, mostRows}
+use Rattle.table.specs.Valid.{tableFrom}
 use Rattle.table.specs.declared.Name.{Name}
 use Rattle.table.specs.declared.Row.{Row}
 use Rattle.text.specs.Lines.{LF, space}
@@ -17,7 +18,7 @@ use Rattle.header.specs.declared.VersionRead.{VersionRead}
 use Rattle.header.specs.declared.VersionRead.the-variants.{Known, Refused}
 use Rattle.rows.specs.inner.Row.{rowFrom, rowAnswer}
 use Rattle.rows.specs.declared.RowRead.{RowRead}
-use Rattle.reader.specs.Reading.{tableFrom, accepted, refusedFile}
+use Rattle.reader.specs.Reading.{accepted, refusedFile}
 use Rattle.reader.specs.declared.Reading.{Reading}
 
 -- The rows from row i on, or the first number among them with its line; any ninth row is 9.
