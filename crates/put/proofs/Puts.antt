@@ -66,6 +66,17 @@ module _ {at : ℕ} {xs buffer : List ℕ} {next : ℕ} {between : List ℕ}
             second .bytes-are ∙ place ∙ rw (first .bytes-are) (sym (sets-append xs ys buffer at));
       }
 
+-- From the last place on all bytes are alike.
+pub puts-far : {at : ℕ} {xs ys buffer : List ℕ} {next : ℕ} {exit : List ℕ} → lastPlace ≤ at
+    → Puts at xs buffer next exit → Puts at ys buffer next exit
+puts-far {at} {xs} {ys} {buffer} far p = record {
+  short = p .short;
+  next-is = omega (arith, p .next-is);
+  bytes-are =
+      let past : length buffer ≤ at = omega (arith, p .short) in
+      p .bytes-are ∙ sets-past xs buffer at past ∙ sym (sets-past ys buffer at past);
+}
+
 -- From the buffer's front, bytes that are fewer than places.
 pub puts-written : {bytes buffer : List ℕ} {next : ℕ} {exit : List ℕ} → length bytes ≤ lastPlace
     → Puts 0 bytes buffer next exit → (next ≡ length bytes) × (exit ≡ written bytes buffer)
