@@ -66,7 +66,11 @@ module _ {at : ℕ} {xs buffer : List ℕ} {next : ℕ} {between : List ℕ}
             second .bytes-are ∙ place ∙ rw (first .bytes-are) (sym (sets-append xs ys buffer at));
       }
 
--- From the last place on all bytes are alike.
+-- No bytes; and from the last place on all bytes are alike.
+pub puts-none : {at : ℕ} {buffer : List ℕ} → length buffer ≤ lastPlace → at ≤ lastPlace
+    → Puts at [] buffer at buffer
+puts-none short near = record { short = short; next-is = omega arith; bytes-are = refl }
+
 pub puts-far : {at : ℕ} {xs ys buffer : List ℕ} {next : ℕ} {exit : List ℕ} → lastPlace ≤ at
     → Puts at xs buffer next exit → Puts at ys buffer next exit
 puts-far {at} {xs} {ys} {buffer} far p = record {
@@ -94,7 +98,7 @@ pub putting-start : (at : ℕ) (bytes buffer : List ℕ) → length buffer ≤ l
 putting-start at bytes buffer short near = record {
   done = [];
   parts-are = refl;
-  puts = record { short = short; next-is = omega arith; bytes-are = refl };
+  puts = puts-none short near;
 }
 
 -- The same behind bytes that were put.

@@ -16,9 +16,9 @@ use Rattle.letters.proofs.Members.{members-next, members-skip, members-end}
 use Rattle.text.specs.Bounds.{decimal}
 use Rattle.text.specs.Bytes.{bytes}
 use Rattle.put.specs.inner.Puts.{Puts, lastPlace}
-use Rattle.lines.specs.Line.{rowNumbers, spaced}
 use Rattle.put.proofs.Puts.{Putting, putting-start, putting-on, putting-end}
 use Rattle.put.proofs.Puts.{putting-length}
+use Rattle.lines.specs.Line.{rowNumbers, spaced}
 use Rattle.lines.proofs.row_numbers.Statement.{statement}
 use Rattle.lines.proofs.row_numbers.Tie as tie
 

@@ -11,10 +11,10 @@ use lib.ListN.{length}
 use lib.Pow.{shr-shr}
 use Rattle.letters.specs.Letter.{bitAt, signalOn, bit}
 use Rattle.letters.proofs.Bits.{bit-eqb}
-use Rattle.lines.specs.Line.{signalValues}
 use Rattle.put.specs.inner.Puts.{Puts, lastPlace}
 use Rattle.put.proofs.Puts.{Putting, putting-start, putting-on, putting-end}
 use Rattle.put.proofs.Puts.{putting-length}
+use Rattle.lines.specs.Line.{signalValues}
 use Rattle.lines.proofs.signal_values.Statement.{statement}
 use Rattle.lines.proofs.signal_values.Tie as tie
 

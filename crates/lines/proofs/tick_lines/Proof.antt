@@ -3,9 +3,9 @@
 use Prim.Native.Nat.{ℕ, _-_}
 use borrow.Author.Needs.{needs}
 use mathlib.Core.Path.{refl}
-use Rattle.lines.specs.Line.{tickLine, tickLines}
 use Rattle.put.proofs.Puts.{putting-start, putting-length}
 use Rattle.put.proofs.NumberedLines.{Numbered, PuttingLines, none-asked, none-there, line-put}
+use Rattle.lines.specs.Line.{tickLine, tickLines}
 use Rattle.lines.proofs.tick_lines.Statement.{statement}
 use Rattle.lines.proofs.tick_lines.Tie as tie
 
@@ -47,4 +47,5 @@ pub tick-lines-spec : {M : Type 1} → statement M
 tick-lines-spec =
     tie.close (tie.spec
     Inv-loop μ-loop loop-holds (λ c. search needs) same-length returns (λ c. search needs)
-    (λ c. search needs) (λ c κs. search needs) (λ c. search needs) loop-again same-length-2 returns-2)
+    (λ c. search needs) (λ c κs. search needs) (λ c. search needs) loop-again same-length-2
+    returns-2)
