@@ -4,4 +4,3 @@ pub mod Pieces
 pub mod Literals
 pub mod Fields
 pub mod Answers
-pub mod Wide

@@ -15,13 +15,13 @@ use lib.Pow.{pow-mono}
 use Rattle.letters.specs.Letter.{letters, setBits, width, members, setOf}
 use Rattle.letters.proofs.Bits.{width-letters}
 use Rattle.letters.proofs.Lists.{and-left, and-right}
-use Rattle.letters.proofs.Members.{allLetters, kept, kept-none, none-kept, kept-all, all-kept}
+use Rattle.letters.proofs.Members.{members-length, members-wide, allLetters, kept, kept-none}
+use Rattle.letters.proofs.Members.{none-kept, kept-all, all-kept, kept-wide}
 use Rattle.table.specs.Limits.{mostSignals}
 use Rattle.table.specs.declared.Name.{Name}
 use Rattle.text.specs.Lines.{joined}
 use Rattle.text.specs.Words.{falseSign, trueSign, orSign}
 use Rattle.writer.specs.File.{termText, conditionText}
-use Rattle.writer.proofs.Wide.{members-length, members-wide, kept-wide}
 use Rattle.writer.proofs.put_condition.Statement.{statement}
 use Rattle.writer.proofs.put_condition.Tie as tie
 
