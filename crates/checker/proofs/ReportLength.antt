@@ -26,14 +26,14 @@ use Rattle.verdict.specs.Found.{valuesOf, refusedFound, trappedFound}
 use Rattle.search.specs.Lent.{Lent, Searched, roomOf, systemOf, traced}
 use Rattle.search.specs.inner.Computed.{judged, searchAnswer}
 use Rattle.search.proofs.Room.{room-most}
-use Rattle.report.proofs.Lengths.{FewDigits, report-short}
+use Rattle.report.proofs.Lengths.{FewDigits, report-length}
 use Rattle.checker.specs.FileReport.{programLent, mostReport}
 use Rattle.checker.specs.inner.Computed.{afterReading, checkAnswer}
 
 refused-few : (rows number line : ℕ) → rows ≤ mostRows → number < 1000 → line < 1000
     → FewDigits rows mostRoom (valuesOf (FoundRefused (record { number = number; line = line })))
 refused-few rows number line r m n = record {
-  rules = r;
+  rules = omega arith;
   number = m;
   line = n;
   short = omega arith;
@@ -49,7 +49,7 @@ unfolding judged
 judged-few rows r room h tooMany w lists lent full short =
     refused-few rows 20 0 r (omega arith) (omega arith)
 judged-few rows r room h (sound n) w lists lent full short = record {
-  rules = r;
+  rules = omega arith;
   number = omega arith;
   line = omega arith;
   short = omega arith;
@@ -66,7 +66,7 @@ judged-few rows r room h (trapped n t k) w lists lent full short =
     go true e =
         let fits = leb-true (length t) (length (lent .trace)) e in
         record {
-          rules = r;
+          rules = omega arith;
           number = omega arith;
           line = omega arith;
           short = omega arith;
@@ -87,9 +87,10 @@ module _ (table : Table) (lent : Lent) (short : length (lent .trace) ≤ mostRoo
       → length (afterReading Accepted table lent .report) ≤ mostReport
   accepted-short fits =
       let searched = searchAnswer table lent in
-      let few = report-short (table .count) (table .signals) mostRoom (searched .lent .trace)
-      (tableValid-signals table fits .1) (omega arith) (searched .found) (searched-few fits) in
-      omega (arith, few)
+      let signals = tableValid-signals table fits .1 in
+      let few = report-length (table .count) (table .signals) mostRoom 3 17
+      (searched .lent .trace) (omega arith) (omega arith) (searched .found) (searched-few fits) in
+      omega (arith, few, tableValid-count table fits .1)
 
 checked-short : (bytes : List ℕ) (lent : Lent) → length (lent .trace) ≤ mostRoom
     → length (checkAnswer bytes lent .report) ≤ mostReport
@@ -100,7 +101,7 @@ checked-short bytes lent short = go (read-decided bytes)
     go (taken table file e) = rw e (accepted-short table lent short (file-valid bytes table file))
     go (turned number line one small low e) =
         let found = FoundRefused (record { number = number; line = line }) in
-        let few = report-short 0 0 mostRoom (lent .trace) (omega arith) (omega arith) found
+        let few = report-length 0 0 mostRoom 3 17 (lent .trace) (omega arith) (omega arith) found
         (refused-few 0 number line (omega arith) (omega arith) (omega arith)) in
         rw e (omega (arith, few))
 

@@ -16,7 +16,7 @@ use Rattle.reader.proofs.Valid.{file-valid}
 use Rattle.load.specs.declared.Ran.{Ran}
 use Rattle.load.specs.Load.{notRun, runAnswer}
 use Rattle.load.proofs.Runs.{run-taken, run-most}
-use Rattle.report.proofs.TotalsLengths.{FewTotals, totals-short}
+use Rattle.totals.proofs.Lengths.{FewTotals, totals-short}
 use Rattle.checker.specs.FileLoad.{loadStart, loadTicks, mostTotals}
 use Rattle.checker.specs.inner.Computed.{loadAnswer}
 

@@ -18,10 +18,10 @@ use Rattle.reader.specs.inner.File.{readAnswer}
 use Rattle.reader.proofs.Accepted.{Decided, taken, turned, read-decided}
 use Rattle.reader.proofs.Valid.{file-valid}
 use Rattle.verdict.specs.Buffer.{written}
-use Rattle.report.specs.Report.{refusedText}
-use Rattle.report.specs.File.{fileText, WriteCall, unwritten, wrote, writeAnswer}
-use Rattle.report.proofs.Answers.{is23, isWritten, case-answer}
-use Rattle.report.proofs.Lengths.{refused-length}
+use Rattle.lines.specs.Line.{refusedText}
+use Rattle.writer.specs.File.{fileText, WriteCall, unwritten, wrote, writeAnswer}
+use Rattle.writer.proofs.Answers.{is23, isWritten, case-answer}
+use Rattle.lines.proofs.Lengths.{refused-length}
 use Rattle.checker.specs.inner.Computed.{afterWriting, writingAnswer}
 
 -- A file that the reader refuses, and one that it accepts.

@@ -82,11 +82,11 @@ pub fn load_file(bytes: &[u8], out: &mut [u8]) -> usize
     let read = reader::read(bytes);
     let outcome = read.outcome;
     match outcome {
-        Outcome::Refused(refusal) => report::totals::write(load::refused(refusal), 0, out),
+        Outcome::Refused(refusal) => totals::write(load::refused(refusal), 0, out),
         Outcome::Accepted => {
             let table = read.table;
             let ran = load::run(table, LOAD_START, LOAD_TICKS);
-            report::totals::write(ran, table.count, out)
+            totals::write(ran, table.count, out)
         }
     }
 }
@@ -97,10 +97,10 @@ fn write_table(table: Table, out: &mut [u8; MOST_BYTES]) -> usize
     ensures { λ r. ⌜ r ≡ length (afterWriting Accepted table) ⌝ }
     ensures { λ _. ⌜ now (out .exit) ≡ written (afterWriting Accepted table) (now (out .entry)) ⌝ }
 {
-    let call = report::file::write(table, out);
+    let call = writer::write(table, out);
     let outcome = call.outcome;
     match outcome {
-        Outcome::Refused(refusal) => report::write_refused(refusal, out),
+        Outcome::Refused(refusal) => lines::write_refused(refusal, out),
         Outcome::Accepted => call.length,
     }
 }
@@ -117,7 +117,7 @@ pub fn write_file(bytes: &[u8], out: &mut [u8; MOST_BYTES]) -> usize
     let read = reader::read(bytes);
     let outcome = read.outcome;
     match outcome {
-        Outcome::Refused(refusal) => report::write_refused(refusal, out),
+        Outcome::Refused(refusal) => lines::write_refused(refusal, out),
         Outcome::Accepted => {
             let table = read.table;
             write_table(table, out)

@@ -19,7 +19,7 @@ use Rattle.text.specs.Lines.{joined}
 use Rattle.text.specs.Words.{orSign, andSign, notSign}
 use Rattle.header.specs.Header.{noName}
 use Rattle.reader.specs.Grammar.{Each, none, and}
-use Rattle.report.specs.File.{nameText, literals, termText, conditionText}
+use Rattle.writer.specs.File.{nameText, literals, termText, conditionText}
 use Rattle.demands.specs.further.Canonical.{IsTerm, IsConditionText, never, always, terms}
 
 -- The pieces of a term, place by place.

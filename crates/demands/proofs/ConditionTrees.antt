@@ -27,7 +27,7 @@ use Rattle.conditions.proofs.Depth.{free-shallow}
 use Rattle.conditions.proofs.Names.{nameRun-every}
 use Rattle.conditions.proofs.Places.{Placed, here, words-placed}
 use Rattle.reader.specs.Grammar.{Each}
-use Rattle.report.specs.File.{nameText, literals, termText, conditionText}
+use Rattle.writer.specs.File.{nameText, literals, termText, conditionText}
 use Rattle.demands.specs.further.Canonical.{IsTerm, IsConditionText}
 use Rattle.demands.specs.further.Canonical.{never as says-never, always as says-always}
 use Rattle.demands.specs.further.Canonical.{terms}

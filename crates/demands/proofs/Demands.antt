@@ -47,7 +47,7 @@ use Rattle.demands.specs.Searching.{Entered, RightAnswer, SameLengths, S
 use Rattle.demands.specs.Reporting.{RightReport}
 use Rattle.demands.specs.Loading.{RightLoad}
 use Rattle.demands.specs.Writing.{Writable, IsWritten, SameTable, RightWriting}
-use Rattle.report.specs.File.{fileText, unwritten, wrote, writeAnswer}
+use Rattle.writer.specs.File.{fileText, unwritten, wrote, writeAnswer}
 use Rattle.checker.specs.FileReport.{FileReport}
 use Rattle.checker.specs.inner.Computed.{checkAnswer, loadAnswer, writingAnswer}
 use Rattle.demands.proofs.Reading as Reading

@@ -29,7 +29,7 @@ use Rattle.reader.specs.Grammar.{Each, none, and, AreRows, IsFile}
 use Rattle.reader.proofs.Files as Files
 use Rattle.reader.proofs.Files.{Six}
 use Rattle.reader.proofs.RowLines.{textsOf, rowLine, line-row}
-use Rattle.report.specs.File.{nameText, conditionText, rowText, usedNames, fileText}
+use Rattle.writer.specs.File.{nameText, conditionText, rowText, usedNames, fileText}
 use Rattle.demands.specs.Writing.{Writable, SameTable}
 use Rattle.demands.proofs.ConditionTrees.{condition-right}
 

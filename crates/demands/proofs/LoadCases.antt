@@ -14,8 +14,8 @@ use Rattle.step.specs.Events.{tickEvents, traceEvents, timesOf, isOpen}
 use Rattle.step.specs.Tick.{tick}
 use Rattle.reader.proofs.Accepted.{accepted-file}
 use Rattle.load.specs.Load.{nextNumber, numbersFrom, letterOf, loadOf, totalsOf, sumOf, sumsOf}
-use Rattle.report.specs.Report.{spaced}
-use Rattle.report.specs.Totals.{totalsLines, sumsLine}
+use Rattle.lines.specs.Line.{spaced}
+use Rattle.totals.specs.Totals.{totalsLines, sumsLine}
 use Rattle.checker.specs.FileLoad.{loadStart, loadTicks}
 use Rattle.checker.specs.inner.Computed.{loadAnswer}
 use Rattle.demands.specs.Loading.RightLoad.{loaded}

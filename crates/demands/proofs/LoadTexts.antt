@@ -21,7 +21,7 @@ use Rattle.reader.proofs.Found.{read-answered}
 use Rattle.reader.proofs.Only.{read-only, read-first-bytes}
 use Rattle.load.specs.Load.{totalsOver, sumsOf, runAnswer}
 use Rattle.load.proofs.Runs.{run-taken}
-use Rattle.report.specs.Totals.{totalsLines, sumsLine, runLines, runBytes}
+use Rattle.totals.specs.Totals.{totalsLines, sumsLine, runLines, runBytes}
 use Rattle.checker.specs.FileLoad.{loadStart, loadTicks}
 use Rattle.checker.specs.inner.Computed.{loadAnswer}
 use Rattle.demands.specs.Loading.{loadTotals, RightLoad}

@@ -27,9 +27,9 @@ use Rattle.load.proofs.Letters as Letters
 use Rattle.load.proofs.RowTotals as RowTotals
 use Rattle.load.proofs.Runs as Runs
 use Rattle.load.proofs.Summing as Summing
-use Rattle.report.specs.Totals.{runBytes}
-use Rattle.report.proofs.TotalsText as Text
-use Rattle.report.proofs.TotalsText.{SameTotals}
+use Rattle.totals.specs.Totals.{runBytes}
+use Rattle.totals.proofs.Injective as Text
+use Rattle.totals.proofs.Injective.{SameTotals}
 use Rattle.checker.specs.FileLoad.{loadStart, loadTicks, mostTotals}
 use Rattle.checker.specs.inner.Computed.{loadAnswer}
 use Rattle.checker.proofs.TotalsLength as TotalsLength

@@ -24,7 +24,8 @@ use Rattle.verdict.specs.Found.{valuesOf, refusedFound}
 use Rattle.verdict.proofs.Buffer.{written-front, written-length}
 use Rattle.search.specs.Lent.{Lent, Searched, roomOf, systemOf}
 use Rattle.search.specs.inner.Computed.{searchAnswer}
-use Rattle.report.specs.Report.{heading, refusedLine, sizeLines, soundLine, trappedLine, tickLines}
+use Rattle.lines.specs.Line.{refusedLine, tickLines}
+use Rattle.report.specs.Report.{heading, sizeLines, soundLine, trappedLine}
 use Rattle.report.specs.Report.{lostLine, listLines, reportLines}
 use Rattle.report.specs.further.Trace.{TraceInBuffer}
 use Rattle.report.specs.further.Lists.{ListedRows}

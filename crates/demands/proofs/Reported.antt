@@ -17,7 +17,8 @@ use Rattle.reader.proofs.Found.{read-answered}
 use Rattle.reader.proofs.Only.{read-only, read-first-bytes}
 use Rattle.verdict.proofs.Buffer.{written-front}
 use Rattle.search.specs.Lent.{Lent, Searched}
-use Rattle.report.specs.Report.{tickLines, lostLine, listLines, reportLines, reportBytes}
+use Rattle.lines.specs.Line.{tickLines}
+use Rattle.report.specs.Report.{lostLine, listLines, reportLines, reportBytes}
 use Rattle.checker.specs.FileReport.{FileReport, programLent}
 use Rattle.checker.specs.inner.Computed.{checkAnswer}
 use Rattle.demands.specs.Reporting.{RightReport}

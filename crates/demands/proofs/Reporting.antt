@@ -17,7 +17,8 @@ use Rattle.verdict.specs.declared.RowLists.{RowLists}
 use Rattle.verdict.specs.Found.{Verdict, valuesOf}
 use Rattle.search.specs.Lent.{Lent, roomOf, systemOf}
 use Rattle.search.specs.inner.Computed.{searchAnswer}
-use Rattle.report.specs.Report.{heading, refusedLine, sizeLines, soundLine, trappedLine, tickLines}
+use Rattle.lines.specs.Line.{refusedLine, tickLines}
+use Rattle.report.specs.Report.{heading, sizeLines, soundLine, trappedLine}
 use Rattle.report.specs.Report.{lostLine, listLines, reportBytes}
 use Rattle.report.specs.further.Trace.{TraceInBuffer}
 use Rattle.report.specs.further.Lists.{ListedRows}

@@ -22,7 +22,7 @@ use Rattle.reader.proofs.Accepted.{accepted-file}
 use Rattle.reader.proofs.Valid.{file-valid}
 use Rattle.verdict.proofs.Buffer.{written-front}
 use Rattle.search.specs.Lent.{Lent, roomOf}
-use Rattle.report.specs.Report.{signalValues, tickLines, spacedOrDash}
+use Rattle.lines.specs.Line.{signalValues, tickLines, spacedOrDash}
 use Rattle.report.specs.Report.{reportLines}
 use Rattle.checker.specs.inner.Computed.{checkAnswer}
 use Rattle.demands.specs.examples.Cases.{P, Q, S, report, delayed}

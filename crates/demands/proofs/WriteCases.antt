@@ -16,7 +16,7 @@ use Rattle.conditions.specs.inner.Reading.{isAt, nameAt, digitAt, reads, condit
 use Rattle.header.specs.inner.Header.{versionAnswer, nameShaped, signalsNumber, signalsAnswer}
 use Rattle.rows.specs.inner.Row.{fieldOf, fieldsOf, numberAmong, rowFields, rowAnswer}
 use Rattle.reader.specs.inner.File.{rowsFrom, rowsAnswer, bodyAnswer, fileAnswer, readAnswer}
-use Rattle.report.specs.File.{literals, conditionText, fileText}
+use Rattle.writer.specs.File.{literals, conditionText, fileText}
 use Rattle.checker.specs.inner.Computed.{writingAnswer}
 use Rattle.demands.specs.examples.Texts.{textP, textNotC, fileOf}
 use Rattle.demands.specs.examples.Written.{TextCaseMeans, textCases, oneRow, rowSent}

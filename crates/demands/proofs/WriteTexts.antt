@@ -22,9 +22,9 @@ use Rattle.reader.proofs.Accepted.{Decided, taken, turned, read-decided, file-a
 use Rattle.reader.proofs.Found.{read-answered}
 use Rattle.reader.proofs.Only.{read-only, read-first-bytes}
 use Rattle.verdict.proofs.Buffer.{written-fits, written-front}
-use Rattle.report.specs.File.{fileText, WriteCall, unwritten, wrote, writeAnswer}
-use Rattle.report.proofs.Answers.{Case, is17, is23, is24, isWritten, answerOf, case-answer}
-use Rattle.report.proofs.Answers.{case-found}
+use Rattle.writer.specs.File.{fileText, WriteCall, unwritten, wrote, writeAnswer}
+use Rattle.writer.proofs.Answers.{Case, is17, is23, is24, isWritten, answerOf, case-answer}
+use Rattle.writer.proofs.Answers.{case-found}
 use Rattle.checker.specs.inner.Computed.{afterWriting, writingAnswer}
 use Rattle.demands.specs.Writing.{IsWritten, RightWriting}
 use Rattle.demands.specs.Writing.RightWriting.{refused, tooLong, written as printed}

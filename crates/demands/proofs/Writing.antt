@@ -18,7 +18,7 @@ use Rattle.reader.specs.Reading.{accepted}
 use Rattle.reader.specs.Sized.{Sized}
 use Rattle.reader.specs.inner.File.{readAnswer}
 use Rattle.reader.proofs.Sizes as Sizes
-use Rattle.report.specs.File.{conditionText, usedNames, fileText, unwritten, wrote, writeAnswer}
+use Rattle.writer.specs.File.{conditionText, usedNames, fileText, unwritten, wrote, writeAnswer}
 use Rattle.checker.specs.inner.Computed.{writingAnswer}
 use Rattle.checker.proofs.Writing as Printing
 use Rattle.demands.specs.Writing.{Writable, IsWritten, SameTable, RightWriting}

@@ -9,8 +9,8 @@ use Rattle.reader.specs.Reading.{refusedFile}
 use Rattle.reader.specs.Right.{RightReading}
 use Rattle.load.specs.declared.Totals.{Totals}
 use Rattle.load.specs.Load.{loadOf, totalsOf, sumsOf}
-use Rattle.report.specs.Report.{refusedLine}
-use Rattle.report.specs.Totals.{totalsLines, sumsLine}
+use Rattle.lines.specs.Line.{refusedLine}
+use Rattle.totals.specs.Totals.{totalsLines, sumsLine}
 use Rattle.checker.specs.FileLoad.{loadStart, loadTicks}
 
 -- The totals of each row of a table after the program's load.

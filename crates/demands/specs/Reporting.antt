@@ -7,7 +7,8 @@ use Rattle.reader.specs.Grammar.{IsFile}
 use Rattle.reader.specs.Reading.{refusedFile}
 use Rattle.reader.specs.Right.{RightReading}
 use Rattle.search.specs.Lent.{Lent, Searched}
-use Rattle.report.specs.Report.{heading, refusedLine, reportBytes}
+use Rattle.lines.specs.Line.{refusedLine}
+use Rattle.report.specs.Report.{heading, reportBytes}
 use Rattle.checker.specs.FileReport.{FileReport}
 use Rattle.demands.specs.Searching.{RightAnswer}
 

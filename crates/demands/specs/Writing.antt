@@ -12,8 +12,8 @@ use Rattle.reader.specs.Grammar.{IsFile}
 use Rattle.reader.specs.Reading.{refusedFile}
 use Rattle.reader.specs.Right.{RightReading}
 use Rattle.reader.specs.Sized.{Sized}
-use Rattle.report.specs.Report.{refusedLine}
-use Rattle.report.specs.File.{usedNames, fileText}
+use Rattle.lines.specs.Line.{refusedLine}
+use Rattle.writer.specs.File.{usedNames, fileText}
 
 -- "Any table value" of the machine, that number 17 lets by; and one of them that is written, where
 -- the lent buffer is not shorter.

@@ -1,21 +1,20 @@
--- The letters of a set, one after the other: the turns of a loop over the letters, from the least
--- on; and what the letters of so many signals leave of a set. Assumes nothing.
+-- The letters of a set, one after the other: the turns of a loop over the letters; and what the
+-- letters of so many signals leave of a set. Assumes nothing.
 use Prim.Native.Nat.{ℕ, zero, suc, _+_, _-_, _%_, _^_, _<_, _≤_}
-use native.Mathlib.Nat.{add-zero, zero-add, lt-of-lt-of-le, mod-lt}
+use native.Mathlib.Decide.{decLt}
+use native.Mathlib.Nat.{add-zero, lt-of-lt-of-le, mod-lt, mod-eq-of-lt}
 use native.Mathlib.Numerals.{add-one}
 use native.Mathlib.Omega.{arith}
-use mathlib.Core.Bool.{true, false}
+use mathlib.Core.Bool.{Bool, true, false, cond}
 use mathlib.Core.List.{[], _∷_}
 use mathlib.Core.Path.{_≡_, refl, sym, ap, _∙_}
 use lib.Bits.{bitAnd, and-mask}
 use lib.Dec.{lit<}
 use lib.ListN.{length}
 use lib.Pow.{pow-mono, pow-pos}
-use Rattle.letters.specs.Letter.{letters, inSet, setBits, members, setOf}
-use Rattle.letters.specs.inner.Least.{leastIn}
-use Rattle.letters.proofs.Bits.{bit-high, bit-place}
+use Rattle.letters.specs.Letter.{letters, inSet, setBits, width, members, setOf}
+use Rattle.letters.proofs.Bits.{bit-high}
 use Rattle.letters.proofs.Described.{none-held, all-held, held-none, held-all}
-use Rattle.letters.proofs.Lowest.{least-none, least-in}
 use Rattle.letters.proofs.Sets.{set-ext, in-setOf, setOf-lt, setOf-true, bit-low}
 
 -- At letter l, which is in the set or not.
@@ -56,43 +55,34 @@ module _ (P : ℕ → Type 0) (n l : ℕ) (all : (i : ℕ) → i < suc n → P (
   of-others i low =
       let place : suc l + i ≡ l + suc i = omega arith in rw place (all (suc i) (omega arith))
 
--- Letters in front that are not in the set.
-members-from : (set n l j : ℕ) → ((i : ℕ) → i < j → inSet set (l + i) ≡ false) → j ≤ n
-    → members n l set ≡ members (n - j) (l + j) set
-members-from set n l zero none h = let all : n - 0 ≡ n = omega arith in rw (all, add-zero)
-members-from set zero l (suc j) none h = absurd (omega arith)
-members-from set (suc n) l (suc j) none h =
-    let place : l + suc j ≡ suc l + j = omega arith in
-    let less : suc n - suc j ≡ n - j = omega arith in
-    let P : ℕ → Type 0 = λ i. inSet set i ≡ false in
-    members-past set n l (of-first P j l none)
-    ∙ members-from set n (suc l) j (of-others P j l none) (omega arith)
-    ∙ rw (less, place)
-
--- Sets with the same letters among those looked at.
-members-same : (x y n l : ℕ) → ((i : ℕ) → i < n → inSet x (l + i) ≡ inSet y (l + i))
-    → members n l x ≡ members n l y
+-- No more than there are letters looked at; and letters at the end that are not in the set.
+pub members-length : (set n l : ℕ) → length (members n l set) ≤ n
 unfolding members
-members-same x y zero l same = refl
-members-same x y (suc n) l same =
-    let P : ℕ → Type 0 = λ i. inSet x i ≡ inSet y i in
-    rw (of-first P n l same, members-same x y n (suc l) (of-others P n l same))
+members-length set zero l = omega arith
+members-length set (suc n) l = go (inSet set l) (members-length set n (suc l))
+  where
+    go : (b : Bool) → length (members n (suc l) set) ≤ n
+        → length (cond b (l ∷ members n (suc l) set) (members n (suc l) set)) ≤ suc n
+    go true h = omega arith
+    go false h = omega arith
 
--- A set with a letter, and only such as are among the first n: its least one, and those after it.
-module _ (set n : ℕ) (wide : n ≤ setBits) (low : set < 2 ^ n) (some : 0 < set) where
-  fits : set < 2 ^ setBits
-  fits = lt-of-lt-of-le low (pow-mono {i = n} {j = setBits} wide)
+members-none : (set n l : ℕ) → ((i : ℕ) → l ≤ i → i < l + n → inSet set i ≡ false)
+    → members n l set ≡ []
+unfolding members
+members-none set zero l off = refl
+members-none set (suc n) l off =
+    rw (off l (omega arith) (omega arith))
+    (members-none set n (suc l) (λ i low high. off i (omega arith) (omega arith)))
 
-  pub least-below : leastIn set < n
-  least-below = bit-place set n (leastIn set) low (least-in set fits some)
-
-  pub members-least : members n 0 set
-      ≡ leastIn set ∷ members (n - (leastIn set + 1)) (leastIn set + 1) set
-  members-least =
-      let first = leastIn set in
-      let below = least-below in
-      members-from set n 0 first (λ i h. rw zero-add (least-none set i h)) (omega arith)
-      ∙ rw zero-add (members-next set n first below (least-in set fits some))
+members-front : (set n m l : ℕ) → n ≤ m
+    → ((i : ℕ) → l + n ≤ i → i < l + m → inSet set i ≡ false) → members m l set ≡ members n l set
+unfolding members
+members-front set zero m l h off =
+    members-none set m l (λ i low high. off i (omega arith) high)
+members-front set (suc n) zero l h off = absurd (omega arith)
+members-front set (suc n) (suc m) l h off =
+    rw (members-front set n m (suc l) (omega arith)
+    (λ i low high. off i (omega arith) (omega arith)))
 
 -- What is kept of a set: the letters that s signals have.
 abbrev pub allLetters : ℕ → ℕ
@@ -108,12 +98,8 @@ module _ (set s : ℕ) where
   kept-in : (l : ℕ) → l < letters s → inSet (kept set s) l ≡ inSet set l
   kept-in l h = rw kept-is (bit-low (letters s) set l h)
 
-  pub kept-low : kept set s < 2 ^ letters s
+  kept-low : kept set s < 2 ^ letters s
   kept-low = rw kept-is (mod-lt set (pow-pos (letters s)))
-
-  pub kept-members : members (letters s) 0 (kept set s) ≡ members (letters s) 0 set
-  kept-members =
-      members-same (kept set s) set (letters s) 0 (λ i h. rw zero-add (kept-in i h))
 
   no-letter : (l : ℕ) → inSet 0 l ≡ false
   no-letter l = bit-high 0 0 l (lit< tt) (omega arith)
@@ -139,3 +125,22 @@ module _ (set s : ℕ) where
   all-kept e =
       set-ext (letters s) (kept set s) (allLetters s) kept-low (setOf-lt (letters s) (λ _. true))
       (λ l h. kept-in l h ∙ all-held set s e l h ∙ sym (every-letter l h))
+
+-- A set has no letter that it cannot hold, with the letters of any number of signals.
+module _ (set s : ℕ) (fits : set < 2 ^ setBits) where
+  pub members-wide : members (letters s) 0 set ≡ members (width s) 0 set
+  members-wide =
+      members-front set (width s) (letters s) 0 (omega arith)
+      (λ i low high. bit-high set setBits i fits (omega arith))
+
+  pub kept-wide : bitAnd set (setOf (width s) (λ _. true)) ≡ kept set s
+  kept-wide =
+      rw (setOf-true, and-mask set (width s), setOf-true, and-mask set (letters s))
+      (go (decLt setBits (letters s)))
+    where
+      go : Dec (setBits < letters s) → set % 2 ^ width s ≡ set % 2 ^ letters s
+      go (yes more) =
+          let all : width s ≡ setBits = omega arith in
+          let low = lt-of-lt-of-le fits (pow-mono {i = setBits} {j = letters s} (omega arith)) in
+          rw all (mod-eq-of-lt fits ∙ sym (mod-eq-of-lt low))
+      go (no less) = let all : width s ≡ letters s = omega arith in rw all

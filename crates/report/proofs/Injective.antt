@@ -1,54 +1,36 @@
 -- Different findings give different reports: where the bytes are the same, so are the lines, and
 -- with them what is found, its lists of rows, its trace and the number of rows. Assumes nothing.
-use Prim.Native.Nat.{ℕ, zero, suc, _+_, _^_, _<_, _≤_}
-use borrow.Author.Tests.{ltb-true, ne-eqb}
-use native.Mathlib.Nat.{zero-add}
+use Prim.Native.Nat.{ℕ, suc, _^_, _<_, _≤_}
 use native.Mathlib.Omega.{arith}
 use mathlib.Core.Bool.{true}
-use mathlib.Core.List.{List, [], _∷_, _++_, append-assoc, append-cancel-left}
+use mathlib.Core.List.{List, [], _∷_, _++_, append-assoc}
 use mathlib.Core.List.{head-eq-of-cons-eq, tail-eq-of-cons-eq}
 use mathlib.Core.Path.{_≡_, refl, sym, ap, ap₂, _∙_}
-use lib.ListN.{length, getD, take, drop}
+use lib.ListN.{length, take}
 use lib.Seq.{length-take-le}
-use Rattle.text.specs.Bytes.{bytes}
-use Rattle.letters.specs.Letter.{signalOn, bit, letters, letterValid}
+use Rattle.letters.specs.Letter.{letterValid}
 use Rattle.letters.specs.Lists.{every}
-use Rattle.letters.proofs.Bits.{bit-injective}
 use Rattle.letters.proofs.Lists.{and-left, and-right}
-use Rattle.letters.proofs.Sets.{set-ext}
-use Rattle.table.specs.declared.Refusal.{Refusal}
-use Rattle.text.specs.Bounds.{decimal}
+use Rattle.text.specs.Bytes.{bytes}
 use Rattle.text.specs.Lines.{LF, count, Free, none, and}
 use Rattle.text.specs.inner.Cut.{lines}
-use Rattle.text.proofs.Bounds.{decimal-free}
-use Rattle.text.proofs.Decimals.{decimal-injective}
 use Rattle.text.proofs.Joins.{lines-ended}
-use Rattle.text.proofs.Splits.{count-append, append-injective}
 use Rattle.verdict.specs.declared.Found.{Found}
 use Rattle.verdict.specs.declared.Found.the-variants.{Refused, Sound, Trapped}
 use Rattle.verdict.specs.declared.RowLists.{RowLists}
 use Rattle.verdict.specs.declared.Summary.{Summary}
 use Rattle.verdict.specs.declared.Trap.{Trap}
 use Rattle.verdict.specs.Found.{Verdict, valuesOf}
-use Rattle.report.specs.Report.{soundLine, lostLine}
-use Rattle.report.specs.Report.{refusedLine, sizeLines, signalValues}
-use Rattle.report.specs.Report.{trappedLine, tickLine, tickLines, trapLines, rowNumbers}
+use Rattle.lines.specs.Line.{tickLines, rowNumbers}
+use Rattle.lines.proofs.Injective.{numbered-free, refused-free, ticks-free, byteAt}
+use Rattle.lines.proofs.Injective.{numbered-injective, refused-injective, tick-injective}
+use Rattle.lines.proofs.Listing.{or-dash-free, row-line-injective}
+use Rattle.report.specs.Report.{sizeLines, soundLine, trappedLine, lostLine, trapLines}
 use Rattle.report.specs.Report.{listLines, reportLines, reportBytes}
 use Rattle.report.specs.further.Lists.{ListedRows}
 use Rattle.report.specs.further.Trace.{TraceInBuffer}
-use Rattle.report.proofs.Listing.{or-dash-free, row-line-injective}
 
 -- No line has an LF in it.
-pub numbered-free : (word : List ℕ) (n : ℕ) → count LF word ≡ 0 → count LF (word ++ decimal n) ≡ 0
-numbered-free word n h = count-append LF word (decimal n) ∙ rw (h, decimal-free LF refl n)
-
-pub refused-free : (m n : ℕ) → count LF (refusedLine m n) ≡ 0
-unfolding count
-refused-free m n =
-    numbered-free (bytes "refused " ++ decimal m ++ (bytes " line ")) n
-    (count-append LF (bytes "refused " ++ decimal m) (bytes " line ")
-    ∙ rw (numbered-free (bytes "refused ") m refl))
-
 sizes-free : (rows n : ℕ) (more : List (List ℕ)) → Free LF more
     → Free LF (sizeLines rows n ++ more)
 unfolding count
@@ -56,30 +38,11 @@ sizes-free rows n more f =
     and (numbered-free (bytes "rules ") rows refl)
     (and (numbered-free (bytes "configurations ") n refl) f)
 
-values-free : (n k letter : ℕ) → count LF (signalValues n k letter) ≡ 0
-unfolding signalValues count
-values-free zero k letter = refl
-values-free (suc n) k letter =
-    rw (ne-eqb (48 + bit (signalOn letter k)) LF (λ e. omega arith)) (values-free n (suc k) letter)
-
 lists-free : (rows : ℕ) (lists : RowLists) → Free LF (listLines rows lists)
 unfolding count
 lists-free rows lists = and (or-dash-free (rowNumbers rows 0 (lists .never))) none
 
 module _ (signals : ℕ) where
-  tick-free : (tick letter : ℕ) → count LF (tickLine signals tick letter) ≡ 0
-  unfolding count
-  tick-free tick letter =
-      count-append LF (bytes "tick " ++ decimal tick) (32 ∷ signalValues signals 0 letter)
-      ∙ rw (numbered-free (bytes "tick ") tick refl, values-free signals 0 letter)
-
-  ticks-free : (tick : ℕ) (w : List ℕ) (more : List (List ℕ)) → Free LF more
-      → Free LF (tickLines signals tick w ++ more)
-  unfolding tickLines
-  ticks-free tick [] more f = f
-  ticks-free tick (letter ∷ w) more f =
-      and (tick-free tick letter) (ticks-free (suc tick) w more f)
-
   report-free : (rows : ℕ) (buffer : List ℕ) (found : Found)
       → Free LF (reportLines rows signals buffer found)
   unfolding reportLines count
@@ -94,29 +57,10 @@ module _ (signals : ℕ) where
       let lists = listLines rows (summary .lists) in
       let ticks = tickLines signals 1 w in
       rw (append-assoc ticks (lost ∷ []) lists) (and refl (sizes-free rows (summary .count)
-      (trappedLine ∷ ticks ++ lost ∷ lists) (and refl (ticks-free 1 w (lost ∷ lists)
+      (trappedLine ∷ ticks ++ lost ∷ lists) (and refl (ticks-free signals 1 w (lost ∷ lists)
       (and (numbered-free (bytes "lost ") (trap .lost) refl) (lists-free rows (summary .lists)))))))
 
--- Byte k of line i.
-abbrev pub byteAt : ℕ → ℕ → List (List ℕ) → ℕ
-byteAt i k ls = getD (getD ls i []) k 0
-
 -- Lines that are the same are of the same numbers.
-numbered-injective : (word : List ℕ) (m n : ℕ) → word ++ decimal m ≡ word ++ decimal n → m ≡ n
-numbered-injective word m n e =
-    decimal-injective m n (append-cancel-left word (decimal m) (decimal n) e)
-
-pub refused-injective : (r s : Refusal)
-    → refusedLine (r .number) (r .line) ≡ refusedLine (s .number) (s .line) → r ≡ s
-refused-injective r s e =
-    let rest = drop 1 (bytes " line ") in
-    let parts = append-injective 32 (decimal (r .number)) (rest ++ decimal (r .line))
-    (decimal (s .number)) (rest ++ decimal (s .line)) (decimal-free 32 refl (r .number))
-    (decimal-free 32 refl (s .number)) (simp append-assoc at (ap (drop 8) e)) in
-    ap₂ {C = Refusal} (λ m n. record { number = m; line = n })
-    (decimal-injective (r .number) (s .number) (parts .0))
-    (numbered-injective rest (r .line) (s .line) (parts .1))
-
 sizes-injective : (rows rows′ m n : ℕ) (xs ys : List (List ℕ))
     → sizeLines rows m ++ xs ≡ sizeLines rows′ n ++ ys → (rows ≡ rows′) × (m ≡ n) × (xs ≡ ys)
 sizes-injective rows rows′ m n xs ys e =
@@ -125,18 +69,6 @@ sizes-injective rows rows′ m n xs ys e =
       numbered-injective (bytes "configurations ") m n (head-eq-of-cons-eq others),
       tail-eq-of-cons-eq others,
     )
-
-values-injective : (n k x y : ℕ) → signalValues n k x ≡ signalValues n k y
-    → (i : ℕ) → i < n → signalOn x (k + i) ≡ signalOn y (k + i)
-unfolding signalValues
-values-injective zero k x y e i h = absurd (omega arith)
-values-injective (suc n) k x y e zero h =
-    let here : k + 0 ≡ k = omega arith in
-    let bits : bit (signalOn x k) ≡ bit (signalOn y k) = omega (arith, head-eq-of-cons-eq e) in
-    rw here (bit-injective (signalOn x k) (signalOn y k) bits)
-values-injective (suc n) k x y e (suc i) h =
-    let later : k + suc i ≡ suc k + i = omega arith in
-    rw later (values-injective n (suc k) x y (tail-eq-of-cons-eq e) i (omega arith))
 
 lists-injective : (rows rows′ : ℕ) (m n : RowLists) → rows ≡ rows′ → m .never < 2 ^ rows
     → n .never < 2 ^ rows′ → listLines rows m ≡ listLines rows′ n → m ≡ n
@@ -153,14 +85,6 @@ trap-injective s t b c h g same =
     (same .1)
 
 module _ (signals : ℕ) where
-  tick-injective : (tick x y : ℕ) → letterValid signals x ≡ true → letterValid signals y ≡ true
-      → tickLine signals tick x ≡ tickLine signals tick y → x ≡ y
-  tick-injective tick x y f g e =
-      let same = tail-eq-of-cons-eq (append-cancel-left (bytes "tick " ++ decimal tick)
-      (32 ∷ signalValues signals 0 x) (32 ∷ signalValues signals 0 y) e) in
-      set-ext signals x y (ltb-true x (letters signals) f) (ltb-true y (letters signals) g)
-      (λ l h. rw zero-add at (values-injective signals 0 x y same l h))
-
   trace-injective : (m n tick : ℕ) (v w : List ℕ) (xs ys : List (List ℕ))
       → every (letterValid signals) v ≡ true → every (letterValid signals) w ≡ true
       → tickLines signals tick v ++ lostLine m ∷ xs ≡ tickLines signals tick w ++ lostLine n ∷ ys
@@ -175,7 +99,7 @@ module _ (signals : ℕ) where
   trace-injective m n tick (x ∷ v) [] xs ys f g e = absurd (omega (arith, ap (byteAt 0 0) e))
   trace-injective m n tick (x ∷ v) (y ∷ w) xs ys f g e =
       let fits = letterValid signals in
-      let first = tick-injective tick x y (and-left (fits x) (every fits v) f)
+      let first = tick-injective signals tick x y (and-left (fits x) (every fits v) f)
       (and-left (fits y) (every fits w) g) (head-eq-of-cons-eq e) in
       let others = trace-injective m n (suc tick) v w xs ys (and-right (fits x) (every fits v) f)
       (and-right (fits y) (every fits w) g) (tail-eq-of-cons-eq e) in

@@ -1,6 +1,3 @@
--- The report; the totals of a load; and a table written as a file.
+-- The report.
 pub mod Report
-pub mod Totals
-pub mod File
 pub mod further
-pub mod inner

@@ -125,7 +125,7 @@ fn text_of(table: Table, ticks: u32, lent: usize) -> Text
 {
     let mut bytes = [b'.'; ROOM];
     let ran = load::run(table, 1, ticks);
-    let length = report::totals::write(ran, table.count, &mut bytes[..lent]);
+    let length = totals::write(ran, table.count, &mut bytes[..lent]);
     Text { length, bytes }
 }
 

@@ -211,7 +211,7 @@ fn number_of(outcome: Outcome) -> u8 {
 
 fn text_of(table: Table) -> Text {
     let mut bytes = [MARK; MOST_BYTES];
-    let written = report::file::write(table, &mut bytes);
+    let written = writer::write(table, &mut bytes);
     let outcome = written.outcome;
     Text {
         number: number_of(outcome),

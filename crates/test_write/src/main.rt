@@ -1,12 +1,12 @@
 // Document 02, ask 6: small tables and the files that they are written as; and tables written in
 // buffers of several lengths, with the number, the length and what became of the bytes behind it.
 use libc::STDOUT_FILENO;
-use report::file::Written;
 use table::ASE;
 use table::Outcome;
 use table::Row;
 use table::TSE;
 use table::Table;
+use writer::Written;
 ghost use Prim.Native.Nat.{_≤_};
 
 // There are so many bytes, some more than a file has at most, and at first each is the mark.
@@ -35,7 +35,7 @@ fn write_lent(table: Table, lent: usize) -> Call
     requires { ⌜ lent ≤ 4200 ⌝ }
 {
     let mut bytes = [MARK; ROOM];
-    let written = report::file::write(table, &mut bytes[..lent]);
+    let written = writer::write(table, &mut bytes[..lent]);
     Call { written, bytes }
 }
 

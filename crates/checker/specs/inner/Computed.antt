@@ -14,9 +14,10 @@ use Rattle.verdict.specs.declared.Found.the-variants.{Refused as FoundRefused}
 use Rattle.search.specs.Lent.{Lent}
 use Rattle.search.specs.inner.Computed.{searchAnswer}
 use Rattle.load.specs.Load.{notRun, runAnswer}
-use Rattle.report.specs.Report.{refusedText, reportBytes}
-use Rattle.report.specs.Totals.{runBytes}
-use Rattle.report.specs.File.{fileText}
+use Rattle.lines.specs.Line.{refusedText}
+use Rattle.report.specs.Report.{reportBytes}
+use Rattle.totals.specs.Totals.{runBytes}
+use Rattle.writer.specs.File.{fileText}
 use Rattle.checker.specs.FileLoad.{loadStart, loadTicks}
 use Rattle.checker.specs.FileReport.{FileReport, Call, callOf}
 

@@ -10,7 +10,7 @@ use Rattle.text.specs.Lines.{ended}
 use Rattle.conditions.specs.Condition.{nameOf}
 use Rattle.conditions.specs.inner.Judge.{judge}
 use Rattle.conditions.specs.declared.Judged.the-variants.{Letters}
-use Rattle.report.specs.File.{conditionText}
+use Rattle.writer.specs.File.{conditionText}
 
 -- Some signals, a condition over them as it is sent, and as it is written.
 pub record TextCase : Type 0 where

@@ -12,7 +12,7 @@ use Rattle.text.specs.Lines.{joined}
 use Rattle.text.specs.Words.{orSign, andSign, notSign}
 use Rattle.header.specs.Header.{noName}
 use Rattle.reader.specs.Grammar.{Each}
-use Rattle.report.specs.File.{nameText}
+use Rattle.writer.specs.File.{nameText}
 
 -- "A term joins every signal in file order by `&`, with `!` where it is false."
 pub record IsTerm (names : List Name) (letter : ℕ) (xs : List ℕ) : Type 0 where

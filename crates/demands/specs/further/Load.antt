@@ -6,8 +6,8 @@ use Rattle.table.specs.Limits.{mostRows}
 use Rattle.text.specs.Lines.{ended}
 use Rattle.load.specs.declared.Totals.{Totals}
 use Rattle.load.specs.Load.{sumsOf}
-use Rattle.report.specs.Report.{refusedLine}
-use Rattle.report.specs.Totals.{totalsLines, sumsLine}
+use Rattle.lines.specs.Line.{refusedLine}
+use Rattle.totals.specs.Totals.{totalsLines, sumsLine}
 
 -- Refused by one of 1 to 16, or the totals of 1 to 8 rows with their sums.
 pub data LoadPrints : List ℕ → Type 0 where

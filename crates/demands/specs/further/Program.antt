@@ -3,8 +3,8 @@ use Prim.Native.Nat.{ℕ, _≤_}
 use mathlib.Core.List.{List, [], _∷_, _++_}
 use Rattle.text.specs.Lines.{ended}
 use Rattle.verdict.specs.declared.RowLists.{RowLists}
-use Rattle.report.specs.Report.{heading, refusedLine, sizeLines, soundLine, trappedLine}
-use Rattle.report.specs.Report.{tickLines, lostLine, listLines}
+use Rattle.lines.specs.Line.{refusedLine, tickLines}
+use Rattle.report.specs.Report.{heading, sizeLines, soundLine, trappedLine, lostLine, listLines}
 
 -- Refused by one of 1 to 16, refused by 20 with line 0, sound, or trapped.
 pub data ProgramPrints : List ℕ → Type 0 where

@@ -1,0 +1,2 @@
+-- The lines that reports share.
+pub mod Line

@@ -1,0 +1,2 @@
+-- The totals of a run as text.
+pub mod Totals

@@ -1,0 +1,3 @@
+-- A table written as a file.
+pub mod File
+pub mod inner
