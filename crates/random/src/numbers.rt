@@ -10,6 +10,11 @@ pub fn mixed(x: u64) -> u64 {
     turn(turn(turn(turn(x))))
 }
 
+// A number, or 0 if it does not count.
+pub fn only_if(yes: bool, n: u8) -> u8 {
+    if yes { n } else { 0 }
+}
+
 // A number below n, or 0.
 pub fn below(seed: u64, n: u16) -> u16 {
     let x = ((mixed(seed) >> 16) % 65536) as u16;

@@ -1,6 +1,7 @@
 // The step rules of document 01, as document 02, ask 4, amends them, over phase codes: "0 waiting;
 // 1-60 trigger elapsed; 60 + elapsed for delay; 120 + elapsed for action; 255 broken"; which of the
 // events of document 02, ask 1, happen at a letter; and which rows' triggers are realised at it.
+use crate::numbers::only_if;
 use table::AC;
 use table::AEE;
 use table::ASE;
@@ -203,19 +204,15 @@ fn completes(row: Row, code: u8, letter: u8, after: u64) -> bool {
     (on | acts(row, code, letter)) & (after == WAITING)
 }
 
-fn bit(happens: bool, event: u8) -> u8 {
-    if happens { event } else { 0 }
-}
-
 // "which of these happened". "A row already broken has none."
 pub fn events(row: Row, code: u8, letter: u8) -> u8 {
     let after = step_row(row, code, letter);
-    bit(starts(row, code, letter), STARTED)
-        | bit(realises(row, code, letter), REALISED)
-        | bit(aborts(row, code, letter), ABORTED)
-        | bit(acts(row, code, letter), ACTING)
-        | bit(completes(row, code, letter, after), COMPLETED)
-        | bit((code != 255) & (after == BROKEN_ROW), BROKE)
+    only_if(starts(row, code, letter), STARTED)
+        | only_if(realises(row, code, letter), REALISED)
+        | only_if(aborts(row, code, letter), ABORTED)
+        | only_if(acts(row, code, letter), ACTING)
+        | only_if(completes(row, code, letter, after), COMPLETED)
+        | only_if((code != 255) & (after == BROKEN_ROW), BROKE)
 }
 
 // The rows of a state whose trigger a letter realises, as a set: bit r is row r + 1.

@@ -1,6 +1,7 @@
 // What is counted, a place for each line that a program prints; and what differs in a table, as a
 // set of bits. The words for lines and bits stand in one text each, and each of them ends with `#`.
 use libc::STDOUT_FILENO;
+use table::Outcome;
 
 // No program prints more lines.
 pub const LINES: usize = 32;
@@ -53,6 +54,14 @@ pub fn unless(same: bool, n: u8) -> u32 {
         return 0;
     }
     if n < 32 { 1 << n } else { 0 }
+}
+
+// Whether a call gave a number: that of its refusal, of which the line is 0, or 0 if it was taken.
+pub fn same_number(outcome: Outcome, number: u8) -> bool {
+    match outcome {
+        Outcome::Accepted => number == 0,
+        Outcome::Refused(refusal) => (refusal.number == number) & (refusal.line == 0),
+    }
 }
 
 // What differs, but for a place that was changed to see that it is noticed: then word 0, if it is

@@ -1,5 +1,5 @@
 // The first search's answer and lists held against what is expected. What differs is a set of bits,
-// whose words tally.rt prints.
+// whose words tally.rt has.
 use crate::expected::ABSENT;
 use crate::expected::Expected;
 use crate::expected::SOUND;

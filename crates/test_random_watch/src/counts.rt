@@ -3,6 +3,7 @@
 ghost use Prim.Native.Nat.{_<_};
 use crate::tally::KINDS;
 use random::numbers::byte_below;
+use random::numbers::only_if;
 use table::MOST_ROWS;
 use watcher::Counts;
 
@@ -39,46 +40,43 @@ pub fn with_rows(counts: [u64; ALL_COUNTS], numbers: [u8; MOST_ROWS]) -> [u64; A
     all
 }
 
-fn with_counts(all: [u64; ALL_COUNTS], i: usize, counts: Counts) -> [u64; ALL_COUNTS]
+// A row's counts that the watcher gives, with one changed if it has that place.
+fn same_row(counts: Counts, right: [u64; ALL_COUNTS], i: usize, changed: usize) -> bool
     requires { ⌜ i < 8 ⌝ }
 {
-    let mut next = all;
-    next[KINDS * i] = counts.started;
-    next[KINDS * i + 1] = counts.realised;
-    next[KINDS * i + 2] = counts.aborted;
-    next[KINDS * i + 3] = counts.acting;
-    next[KINDS * i + 4] = counts.completed;
-    next[KINDS * i + 5] = counts.broken;
-    next
-}
-
-// The counts that the watcher gives.
-pub fn counts_of(counts: [Counts; MOST_ROWS]) -> [u64; ALL_COUNTS] {
-    let mut all = [0u64; ALL_COUNTS];
-    for i in 0..MOST_ROWS {
-        let more = with_counts(all, i, counts[i]);
-        all = more;
-    }
-    all
-}
-
-pub fn same_counts(given: [u64; ALL_COUNTS], right: [u64; ALL_COUNTS]) -> bool {
-    for i in 0..ALL_COUNTS {
-        if given[i] != right[i] {
+    let given = [
+        counts.started,
+        counts.realised,
+        counts.aborted,
+        counts.acting,
+        counts.completed,
+        counts.broken,
+    ];
+    for k in 0..KINDS {
+        let place = KINDS * i + k;
+        let number = given[k] ^ only_if(place == changed, 1) as u64;
+        if number != right[place] {
             return false;
         }
     }
     true
 }
 
-// One count changed, if one is to be.
-pub fn strike_counts(seed: u64, given: [u64; ALL_COUNTS], struck: bool) -> [u64; ALL_COUNTS] {
-    let mut changed = given;
-    let at = byte_below(seed ^ 1, 48) as usize;
-    if struck {
-        if at < ALL_COUNTS {
-            changed[at] = given[at] ^ 1;
+// All counts that the watcher gives, with one changed, if there is a place for it.
+pub fn same_counts(given: [Counts; MOST_ROWS], right: [u64; ALL_COUNTS], changed: usize) -> bool {
+    for i in 0..MOST_ROWS {
+        if !same_row(given[i], right, i, changed) {
+            return false;
         }
     }
-    changed
+    true
+}
+
+// The place of a count that is to be changed, or none.
+pub fn any_place(seed: u64, struck: bool) -> usize {
+    if struck {
+        byte_below(seed ^ 1, 48) as usize
+    } else {
+        ALL_COUNTS
+    }
 }

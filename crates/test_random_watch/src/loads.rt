@@ -4,7 +4,6 @@
 use crate::tally::with_realised;
 use crate::tally::with_run;
 use crate::watched::Compared;
-use crate::watched::same_number;
 use load::Totals;
 use random::numbers::below;
 use random::numbers::byte_below;
@@ -18,6 +17,7 @@ use random::rules::events;
 use random::tables::letter_count;
 use random::tally::Tally;
 use random::tally::reported;
+use random::tally::same_number;
 use random::tally::unless;
 use table::MOST_ROWS;
 use table::Row;

@@ -3,10 +3,9 @@
 // reading of the rules. What differs is a set of bits, whose words tally.rt has.
 ghost use Prim.Native.Nat.{_≤_};
 use crate::counts::ALL_COUNTS;
-use crate::counts::counts_of;
+use crate::counts::any_place;
 use crate::counts::no_counts;
 use crate::counts::same_counts;
-use crate::counts::strike_counts;
 use crate::counts::with_rows;
 use crate::starts::MOST_LETTERS;
 use crate::starts::any_codes;
@@ -22,14 +21,15 @@ use random::numbers::below;
 use random::numbers::byte_below;
 use random::numbers::mixed;
 use random::numbers::one_in;
+use random::numbers::only_if;
 use random::rules::code_after;
 use random::rules::events;
 use random::tally::Tally;
 use random::tally::reported;
+use random::tally::same_number;
 use random::tally::unless;
 use step::Events;
 use table::MOST_ROWS;
-use table::Outcome;
 use table::Table;
 use watcher::Played;
 use watcher::Ticked;
@@ -66,18 +66,14 @@ fn right_tick(table: Table, valid: bool, codes: [u8; MOST_ROWS], letter: u8) -> 
     }
 }
 
-fn bit(happened: bool, value: u8) -> u8 {
-    if happened { value } else { 0 }
-}
-
 // The events that the watcher gives, as a number.
 fn number_of(e: Events) -> u8 {
-    bit(e.started, 1)
-        | bit(e.realised, 2)
-        | bit(e.aborted, 4)
-        | bit(e.acting, 8)
-        | bit(e.completed, 16)
-        | bit(e.broken, 32)
+    only_if(e.started, 1)
+        | only_if(e.realised, 2)
+        | only_if(e.aborted, 4)
+        | only_if(e.acting, 8)
+        | only_if(e.completed, 16)
+        | only_if(e.broken, 32)
 }
 
 fn same_codes(watch: Watch, codes: [u8; MOST_ROWS]) -> bool {
@@ -107,20 +103,12 @@ fn any_strike(seed: u64, struck: bool) -> Strike {
 
 fn same_events(all: [Events; MOST_ROWS], right: [u8; MOST_ROWS], strike: Strike) -> bool {
     for i in 0..MOST_ROWS {
-        let given = number_of(all[i]) ^ bit(i == strike.row, strike.event);
+        let given = number_of(all[i]) ^ only_if(i == strike.row, strike.event);
         if given != right[i] {
             return false;
         }
     }
     true
-}
-
-// The number of a refusal, of which the line is 0, or 0.
-pub fn same_number(outcome: Outcome, number: u8) -> bool {
-    match outcome {
-        Outcome::Accepted => number == 0,
-        Outcome::Refused(refusal) => (refusal.number == number) & (refusal.line == 0),
-    }
 }
 
 // A tick's answer, compared. If it is struck, an event in it is changed first.
@@ -195,16 +183,14 @@ fn compare_play(
     at: Course,
 ) -> Compared {
     let outcome = played.outcome;
-    let all = played.counts;
-    let sums = counts_of(all);
-    let given = strike_counts(seed, sums, struck);
+    let given = played.counts;
     let mut codes = start;
     let mut right = no_counts();
     if at.number == 0 {
         codes = at.codes;
         right = at.counts;
     }
-    let same = same_counts(given, right);
+    let same = same_counts(given, right, any_place(seed, struck));
     Compared {
         differs: at.differs
             | unless(same_number(outcome, at.number), 1)

@@ -1,6 +1,7 @@
 // The second writer, made from documents 01 and 02 alone. It puts the bytes of a file from the last
 // to the first, into a list as long as the longest file, at whose end the file then stands. Bytes
 // are counted to one more than that, which is a file that is too long.
+use random::numbers::only_if;
 use random::tables::letter_count;
 use table::AC;
 use table::AEE;
@@ -17,8 +18,12 @@ use table::TEE;
 use table::TSE;
 use table::Table;
 
-// A byte in front of the n that there are; each function answers how many there are then.
+// A byte in front of the n that there are, or none if it is 0; each function answers how many there
+// are then.
 fn put(out: &mut [u8; MOST_BYTES], n: usize, byte: u8) -> usize {
+    if byte == 0 {
+        return n;
+    }
     if MOST_BYTES <= n {
         return MOST_BYTES + 1;
     }
@@ -26,28 +31,23 @@ fn put(out: &mut [u8; MOST_BYTES], n: usize, byte: u8) -> usize {
     n + 1
 }
 
-// A byte, if it is to be there.
-fn put_if(out: &mut [u8; MOST_BYTES], n: usize, byte: u8, yes: bool) -> usize {
-    if yes { put(out, n, byte) } else { n }
-}
-
-// The letters of a name or a word, of which the unused ones are 0.
+// A name or a word, of which the unused places are 0.
 fn put_word(out: &mut [u8; MOST_BYTES], n: usize, chars: [u8; NAME_CHARS]) -> usize {
     let mut at = n;
     for k in 0..NAME_CHARS {
-        let char = chars[NAME_CHARS - 1 - k];
-        at = put_if(out, at, char, char != 0);
+        at = put(out, at, chars[NAME_CHARS - 1 - k]);
     }
     at
 }
 
-// "a term joins every signal in file order by `&`, with `!` where it is false".
-fn put_term(
+// Every signal in file order, with a byte between them, and with `!` where it is off in a letter.
+fn put_names(
     out: &mut [u8; MOST_BYTES],
     n: usize,
     names: [Name; MOST_SIGNALS],
     signals: u8,
-    letter: usize,
+    letter: u8,
+    between: u8,
 ) -> usize {
     let mut at = n;
     for k in 0..MOST_SIGNALS {
@@ -56,15 +56,16 @@ fn put_term(
             let name = names[signal];
             let chars = name.chars;
             at = put_word(out, at, chars);
-            at = put_if(out, at, b'!', (letter >> signal) % 2 == 0);
-            at = put_if(out, at, b'&', 0 < signal);
+            at = put(out, at, only_if((letter >> signal) % 2 == 0, b'!'));
+            at = put(out, at, only_if(0 < signal, between));
         }
     }
     at
 }
 
 // "A condition that never holds is `0` and one that always holds is `1`. Otherwise it is one term
-// for each letter that satisfies it, smallest first, joined by `|`".
+// for each letter that satisfies it, smallest first, joined by `|`; a term joins every signal in file
+// order by `&`, with `!` where it is false."
 fn put_condition(
     out: &mut [u8; MOST_BYTES],
     n: usize,
@@ -82,8 +83,8 @@ fn put_condition(
     for k in 0..64 {
         let letter = 63 - k;
         if (set >> letter) % 2 == 1 {
-            at = put_if(out, at, b'|', at != n);
-            at = put_term(out, at, names, signals, letter);
+            at = put(out, at, only_if(at != n, b'|'));
+            at = put_names(out, at, names, signals, letter, b'&');
         }
     }
     at
@@ -92,7 +93,7 @@ fn put_condition(
 // "A bound is 0 to 60 without a leading zero".
 fn put_bound(out: &mut [u8; MOST_BYTES], n: usize, bound: u8) -> usize {
     let at = put(out, n, b'0' + bound % 10);
-    put_if(out, at, b'0' + bound / 10, 10 <= bound)
+    put(out, at, only_if(10 <= bound, b'0' + bound / 10))
 }
 
 // "TSE, TC, TEE, Tmin, Tmax, Lmin, Lmax, ASE, AC, AEE, Amin, Amax": the bounds among them.
@@ -138,7 +139,7 @@ fn put_row(
         } else {
             at = put_condition(out, at, names, signals, set_of(row, field));
         }
-        at = put_if(out, at, b',', 0 < field);
+        at = put(out, at, only_if(0 < field, b','));
     }
     put_word(out, at, [b'r', b'u', b'l', b'e', b' ', 0, 0, 0])
 }
@@ -160,33 +161,19 @@ fn put_rows(
     at
 }
 
-// "`signals`, then a space and a name for each signal".
-fn put_signals(
-    out: &mut [u8; MOST_BYTES],
-    n: usize,
-    names: [Name; MOST_SIGNALS],
-    signals: u8,
-) -> usize {
-    let mut at = put(out, n, b'\n');
-    for k in 0..MOST_SIGNALS {
-        let i = MOST_SIGNALS - 1 - k;
-        if i < signals as usize {
-            let name = names[i];
-            let chars = name.chars;
-            at = put_word(out, at, chars);
-            at = put(out, at, b' ');
-        }
-    }
-    put_word(out, at, [b's', b'i', b'g', b'n', b'a', b'l', b's', 0])
-}
+// The letter with all of six signals on: no name has a `!`.
+const ALL_ON: u8 = 63;
 
-// Puts the file of a table, and answers its length.
+// Puts the file of a table, and answers its length. "Line 2 is `signals`, then a space and a name
+// for each signal".
 pub fn put_file(out: &mut [u8; MOST_BYTES], table: Table) -> usize {
     let names = table.names;
     let rows = table.rows;
     let signals = table.signals;
     let lines = put_rows(out, names, signals, rows, table.count);
-    let below = put_signals(out, lines, names, signals);
-    let at = put(out, below, b'\n');
-    put_word(out, at, [b'P', b'N', b'P', b' ', b'0', b'0', b'0', b'1'])
+    let end = put(out, lines, b'\n');
+    let named = put_names(out, end, names, signals, ALL_ON, b' ');
+    let second = put_word(out, named, [b's', b'i', b'g', b'n', b'a', b'l', b's', b' ']);
+    let above = put(out, second, b'\n');
+    put_word(out, above, [b'P', b'N', b'P', b' ', b'0', b'0', b'0', b'1'])
 }

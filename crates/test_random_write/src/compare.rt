@@ -2,6 +2,7 @@
 // buffer held against it. What differs is a set of bits, whose words tally.rt has.
 ghost use Prim.Native.Nat.{_≤_};
 use crate::LONGEST;
+use random::tally::same_number;
 use random::tally::unless;
 use table::MOST_BYTES;
 use table::Outcome;
@@ -36,13 +37,6 @@ pub fn expect(valid: bool, length: usize, lent: usize) -> Expected
         };
     }
     Expected { number: 0, length }
-}
-
-fn same_number(outcome: Outcome, number: u8) -> bool {
-    match outcome {
-        Outcome::Accepted => number == 0,
-        Outcome::Refused(refusal) => (refusal.number == number) & (refusal.line == 0),
-    }
 }
 
 pub fn compare_answers(outcome: Outcome, length: usize, right: Expected) -> u32 {
