@@ -1,5 +1,5 @@
 // The first search's answer and lists held against what is expected. What differs is a set of bits,
-// whose words tally.rt prints.
+// whose words tally.rt has.
 use crate::expected::ABSENT;
 use crate::expected::Expected;
 use crate::expected::SOUND;
@@ -14,20 +14,13 @@ use crate::lent::STATES_KEY;
 use crate::lent::TRACE_KEY;
 use crate::lent::after_search;
 use crate::lent::rubbish;
-use crate::second::ALL_PARTS;
-use crate::second::LOST;
-use crate::second::STATE;
-use crate::second::TRACE;
+use random::tally::unless;
+use second::ALL_PARTS;
+use second::LOST;
+use second::STATE;
+use second::TRACE;
 use table::Refusal;
 use verdict::Found;
-
-// The bit of word n, unless the two are the same.
-pub fn unless(same: bool, n: u8) -> u32 {
-    if same {
-        return 0;
-    }
-    if n < 32 { 1 << n } else { 0 }
-}
 
 fn compare_values(
     refusal: Refusal,
@@ -39,12 +32,12 @@ fn compare_values(
     right: Expected,
 ) -> u32 {
     let refused = (refusal.number == right.number) & (refusal.line == 0);
-    unless(refused, 0)
-        | unless(verdict == right.verdict, 1)
-        | unless(length as usize == right.length, 2)
-        | unless(lost as usize == right.lost, 3)
-        | unless(count as usize == right.count, 4)
-        | unless(never == right.never, 16)
+    unless(refused, 1)
+        | unless(verdict == right.verdict, 2)
+        | unless(length as usize == right.length, 3)
+        | unless(lost as usize == right.lost, 4)
+        | unless(count as usize == right.count, 5)
+        | unless(never == right.never, 6)
 }
 
 pub fn compare_answers(found: Found, right: Expected) -> u32 {
@@ -84,7 +77,7 @@ fn compare_index(index: [u16; LONGEST_INDEX], places: usize, cleared: bool, key:
             break;
         }
         let right = if cleared { 0 } else { rubbish(key, i) };
-        bits = bits | wrong16(i, places, index[i], right, 7);
+        bits = bits | wrong16(i, places, index[i], right, 9);
     }
     bits
 }
@@ -109,9 +102,9 @@ pub fn compare_lists(
         let d = after_search(answer, LOST, i, used, cleared, key ^ LOST_KEY);
         let e = after_search(answer, TRACE, i, right.length, false, key ^ TRACE_KEY);
         bits = bits
-            | wrong(i, lengths.states, states[i], a, 5)
-            | wrong16(i, lengths.lost, lost[i], d, 6)
-            | wrong8(i, lengths.trace, trace[i], e, 8);
+            | wrong(i, lengths.states, states[i], a, 7)
+            | wrong16(i, lengths.lost, lost[i], d, 8)
+            | wrong8(i, lengths.trace, trace[i], e, 10);
     }
     bits
 }

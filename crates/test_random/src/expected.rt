@@ -1,7 +1,7 @@
 // What a search should answer, from what the second search found and from what was lent.
 use crate::lent::Lengths;
 use crate::lent::room;
-use crate::second::Solved;
+use second::Solved;
 
 pub const ABSENT: u8 = 0;
 

@@ -3,11 +3,11 @@
 ghost use mathlib.Core.Path.{_≡_};
 ghost use Prim.Native.Nat.{_≤_, _<_};
 ghost use lib.ListN.{length};
-use crate::random::below;
-use crate::random::byte_below;
-use crate::random::mixed;
-use crate::second::ALL_PARTS;
-use crate::second::Solved;
+use random::numbers::below;
+use random::numbers::byte_below;
+use random::numbers::mixed;
+use second::ALL_PARTS;
+use second::Solved;
 
 // No list is longer, but for the index.
 pub const LONGEST: usize = 512;

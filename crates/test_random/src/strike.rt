@@ -4,10 +4,10 @@ use crate::lent::Held;
 use crate::lent::LONGEST;
 use crate::lent::LONGEST_INDEX;
 use crate::lent::Lengths;
-use crate::random::below;
-use crate::random::byte_below;
-use crate::random::mixed;
-use crate::random::one_in;
+use random::numbers::below;
+use random::numbers::byte_below;
+use random::numbers::mixed;
+use random::numbers::one_in;
 use verdict::Found;
 use verdict::Summary;
 

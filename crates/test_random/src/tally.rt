@@ -1,261 +1,149 @@
 // How many tables had which answer, and which kinds of paths.
-use crate::compare::unless;
 use crate::expected::ABSENT;
 use crate::expected::Expected;
 use crate::expected::SOUND;
 use crate::expected::TRAPPED;
-use crate::kinds::Kinds;
 use crate::lent::Lengths;
 use crate::lent::room;
-use crate::lists::larger;
-use crate::lists::more;
-use crate::lists::one_more;
-use crate::loads::Runs;
-use crate::loads::no_runs;
-use crate::loads::print_runs;
-use crate::second::Solved;
-use crate::seen::Seen;
-use crate::seen::nothing;
-use crate::seen::print_seen;
-use libc::STDOUT_FILENO;
+use random::tally::Tally;
+use random::tally::largest;
+use random::tally::more;
+use random::tally::one_more_if;
+use random::tally::print;
+use random::tally::print_difference;
+use random::tally::unless;
+use second::Solved;
+use second::kinds::Kinds;
 
-pub struct Tally {
-    pub tables: usize,
-    pub agreed: usize,
-    pub struck: usize,
-    pub noticed: usize,
-    pub bare: usize,
-    pub indexed: usize,
-    pub sound: usize,
-    pub sound_with_rows: usize,
-    pub trapped: usize,
-    pub trapped_at_once: usize,
-    pub long_trace: usize,
-    pub large_lost: usize,
-    pub refused_17: usize,
-    pub refused_20: usize,
-    pub refused_21: usize,
-    pub longest_trace: usize,
-    pub largest_lost: usize,
-    pub most_states: usize,
-    pub all_fire: usize,
-    pub with_break: usize,
-    pub walks: usize,
-    pub walks_agreed: usize,
-    pub closed: usize,
-    pub closed_back: usize,
-    pub joined: usize,
-    pub fell_back: usize,
-    pub longest_fall: usize,
-    pub again: usize,
-    pub seen: Seen,
-    pub runs: Runs,
-}
+// The lines by their places.
+const TABLES: usize = 0;
 
-// So many lines are printed of it.
-const LINES: usize = 28;
+const AGREED: usize = 1;
+
+const CHANGED: usize = 2;
+
+const NOTICED: usize = 3;
+
+const BARE: usize = 4;
+
+const INDEXED: usize = 5;
+
+const ALL_SOUND: usize = 6;
+
+const SOUND_WITH_ROWS: usize = 7;
+
+const ALL_TRAPPED: usize = 8;
+
+const AT_ONCE: usize = 9;
+
+const LONG_TRACE: usize = 10;
+
+const LARGE_LOST: usize = 11;
+
+const REFUSED_17: usize = 12;
+
+const REFUSED_20: usize = 13;
+
+const REFUSED_21: usize = 14;
+
+const LONGEST_TRACE: usize = 15;
+
+const LARGEST_LOST: usize = 16;
+
+const MOST_STATES: usize = 17;
+
+const ALL_FIRE: usize = 18;
+
+const WITH_BREAK: usize = 19;
+
+const WALKS: usize = 20;
+
+const WALKS_AGREED: usize = 21;
+
+const CLOSED: usize = 22;
+
+const CLOSED_BACK: usize = 23;
+
+const JOINED: usize = 24;
+
+const FELL_BACK: usize = 25;
+
+const LONGEST_FALL: usize = 26;
+
+const AGAIN: usize = 27;
+
+const ALL_LINES: usize = 28;
 
 // A walk that falls back through so many doomed states in a row is counted.
 const FALL: usize = 5;
 
-pub fn none() -> Tally {
-    Tally {
-        tables: 0,
-        agreed: 0,
-        struck: 0,
-        noticed: 0,
-        bare: 0,
-        indexed: 0,
-        sound: 0,
-        sound_with_rows: 0,
-        trapped: 0,
-        trapped_at_once: 0,
-        long_trace: 0,
-        large_lost: 0,
-        refused_17: 0,
-        refused_20: 0,
-        refused_21: 0,
-        longest_trace: 0,
-        largest_lost: 0,
-        most_states: 0,
-        all_fire: 0,
-        with_break: 0,
-        walks: 0,
-        walks_agreed: 0,
-        closed: 0,
-        closed_back: 0,
-        joined: 0,
-        fell_back: 0,
-        longest_fall: 0,
-        again: 0,
-        seen: nothing(),
-        runs: no_runs(),
-    }
-}
-
-pub(crate) fn one_more_if(n: usize, yes: bool) -> usize {
-    if yes { one_more(n) } else { n }
-}
-
-// Prints word n of those in a text, each of which ends with `#`.
-fn print_word(text: &[u8], n: usize) {
-    let mut at: usize = 0;
-    for i in 0..text.len() {
-        let byte = text[i];
-        if byte == b'#' {
-            at = one_more(at);
-        } else if at == n {
-            let letter = [byte];
-            io::write_all(STDOUT_FILENO, &letter);
-        }
-    }
-}
-
-pub(crate) fn print_line(text: &[u8], n: usize, number: usize) {
-    print_word(text, n);
-    io::print_decimal(STDOUT_FILENO, number as u64);
-    io::write_all(STDOUT_FILENO, b"\n");
-}
-
-// Prints what differs in a table, and its number, unless nothing differs.
-pub(crate) fn print_difference(bits: u32, number: usize) {
-    if bits == 0 {
-        return;
-    }
-    let text: &[u8] = b"refusal #verdict #trace length #lost number #count #\
-        states #lost numbers #index #trace #the way back #\
-        the walk's lost numbers #a changed place #a watcher's refusal #\
-        phases #events #event counts #rows that never fire #a load's refusal #totals #\
-        a writer's refusal #the table read back #a file #the second table's file #\
-        differ in table #";
-    let mut left = bits;
-    for n in 0..23 {
-        if left % 2 == 1 {
-            print_word(text, n);
-        }
-        left = left / 2;
-    }
-    print_line(text, 23, number);
-}
-
 // The tally with a table whose place was changed, and whether the comparison noticed it; and with
 // an index that is empty, or has places for buckets behind those of the room.
-pub fn noted(tally: Tally, struck: bool, differs: u32, lengths: Lengths) -> Tally {
-    let mut t = tally;
+pub fn noted(tally: Tally, changed: bool, differs: u32, lengths: Lengths) -> Tally {
     let room = room(lengths.states, lengths.lost);
-    t.bare = one_more_if(t.bare, lengths.index == 0);
-    t.indexed = one_more_if(t.indexed, room < lengths.index);
-    t.struck = one_more_if(t.struck, struck);
-    t.noticed = one_more_if(t.noticed, struck & (differs != 0));
-    t
-}
-
-// What differs, but for a place that was changed to see that it is noticed.
-pub fn reported(struck: bool, differs: u32) -> u32 {
-    if struck {
-        unless(differs != 0, 11)
-    } else {
-        differs
-    }
-}
-
-// The tally with a verdict's rows that never fire, if there is a verdict.
-fn with_never(tally: Tally, right: Expected) -> Tally {
-    let mut t = tally;
-    let all_fire = (right.verdict != ABSENT) & (right.never == 0);
-    t.all_fire = one_more_if(t.all_fire, all_fire);
-    t.with_break = more(t.with_break, u64::count_ones(right.with_break));
-    t
+    let mut t = one_more_if(tally, BARE, lengths.index == 0);
+    t = one_more_if(t, INDEXED, room < lengths.index);
+    t = one_more_if(t, CHANGED, changed);
+    one_more_if(t, NOTICED, changed & (differs != 0))
 }
 
 // The tally with a walk along paths, and with a trigger that starts again, where the entries were
 // compared.
-fn with_walk(tally: Tally, kinds: Kinds, again: bool, walked: bool) -> Tally {
-    let mut t = tally;
-    let fall = if walked { kinds.longest_fall } else { 0 };
-    t.walks = one_more_if(t.walks, walked);
-    t.walks_agreed = one_more_if(t.walks_agreed, walked & kinds.same);
-    t.closed = one_more_if(t.closed, walked & kinds.closed);
-    t.closed_back = one_more_if(t.closed_back, walked & kinds.closed_back);
-    t.joined = one_more_if(t.joined, walked & kinds.joined);
-    t.fell_back = one_more_if(t.fell_back, FALL <= fall);
-    t.longest_fall = larger(t.longest_fall, fall);
-    t.again = one_more_if(t.again, walked & again);
-    t
+fn with_walk(tally: Tally, kinds: Kinds, again: bool) -> Tally {
+    let mut t = one_more_if(tally, WALKS, true);
+    t = one_more_if(t, WALKS_AGREED, kinds.same);
+    t = one_more_if(t, CLOSED, kinds.closed);
+    t = one_more_if(t, CLOSED_BACK, kinds.closed_back);
+    t = one_more_if(t, JOINED, kinds.joined);
+    t = one_more_if(t, FELL_BACK, FALL <= kinds.longest_fall);
+    t = largest(t, LONGEST_FALL, kinds.longest_fall);
+    one_more_if(t, AGAIN, again)
 }
 
-// The tally with one table more, of which `differs` says what differs. `seen` and `runs` have its
-// ticks and its run already.
-pub fn counted(
-    t: Tally,
-    right: Expected,
-    rows: u8,
-    differs: u32,
-    solved: Solved,
-    seen: Seen,
-    runs: Runs,
-) -> Tally {
-    let kinds = solved.kinds;
-    let second = unless(solved.back, 9) | unless(kinds.same, 10);
-    print_difference(differs | second, t.tables);
+// The tally with a refusal's number.
+fn with_refusal(tally: Tally, number: u8) -> Tally {
+    let mut t = one_more_if(tally, REFUSED_17, number == 17);
+    t = one_more_if(t, REFUSED_20, number == 20);
+    one_more_if(t, REFUSED_21, number == 21)
+}
+
+// The tally with a verdict's values, and its rows that never fire.
+fn with_verdict(tally: Tally, right: Expected, rows: u8) -> Tally {
     let sound = right.verdict == SOUND;
     let trapped = right.verdict == TRAPPED;
-    let listed = with_never(t, right);
-    let mut next = with_walk(listed, kinds, solved.again, 0 < right.used);
-    next.tables = one_more(t.tables);
-    next.agreed = one_more_if(t.agreed, differs == 0);
-    next.sound = one_more_if(t.sound, sound);
-    next.sound_with_rows = one_more_if(t.sound_with_rows, sound & (1 < rows) & (3 < right.count));
-    next.trapped = one_more_if(t.trapped, trapped);
-    next.trapped_at_once = one_more_if(t.trapped_at_once, trapped & (right.length == 0));
-    next.long_trace = one_more_if(t.long_trace, 3 < right.length);
-    next.large_lost = one_more_if(t.large_lost, 3 < right.lost);
-    next.refused_17 = one_more_if(t.refused_17, right.number == 17);
-    next.refused_20 = one_more_if(t.refused_20, right.number == 20);
-    next.refused_21 = one_more_if(t.refused_21, right.number == 21);
-    next.longest_trace = larger(t.longest_trace, right.length);
-    next.largest_lost = larger(t.largest_lost, right.lost);
-    next.most_states = larger(t.most_states, right.count);
-    next.seen = seen;
-    next.runs = runs;
-    next
+    let mut t = one_more_if(tally, ALL_SOUND, sound);
+    t = one_more_if(t, SOUND_WITH_ROWS, sound & (1 < rows) & (3 < right.count));
+    t = one_more_if(t, ALL_TRAPPED, trapped);
+    t = one_more_if(t, AT_ONCE, trapped & (right.length == 0));
+    t = one_more_if(t, LONG_TRACE, 3 < right.length);
+    t = one_more_if(t, LARGE_LOST, 3 < right.lost);
+    t = largest(t, LONGEST_TRACE, right.length);
+    t = largest(t, LARGEST_LOST, right.lost);
+    t = largest(t, MOST_STATES, right.count);
+    t = one_more_if(t, ALL_FIRE, (right.verdict != ABSENT) & (right.never == 0));
+    more(t, WITH_BREAK, u64::count_ones(right.with_break))
 }
 
-// The numbers of the lines, in their order.
-fn numbers(t: Tally) -> [usize; LINES] {
-    [
-        t.tables,
-        t.agreed,
-        t.struck,
-        t.noticed,
-        t.bare,
-        t.indexed,
-        t.sound,
-        t.sound_with_rows,
-        t.trapped,
-        t.trapped_at_once,
-        t.long_trace,
-        t.large_lost,
-        t.refused_17,
-        t.refused_20,
-        t.refused_21,
-        t.longest_trace,
-        t.largest_lost,
-        t.most_states,
-        t.all_fire,
-        t.with_break,
-        t.walks,
-        t.walks_agreed,
-        t.closed,
-        t.closed_back,
-        t.joined,
-        t.fell_back,
-        t.longest_fall,
-        t.again,
-    ]
+// The tally with one table more, of which `differs` says what differs.
+pub fn counted(tally: Tally, right: Expected, rows: u8, differs: u32, solved: Solved) -> Tally {
+    let kinds = solved.kinds;
+    let second = unless(solved.back, 11) | unless(kinds.same, 12);
+    let words: &[u8] = b"a changed place #refusal #verdict #trace length #lost number #count #\
+        rows that never fire #states #lost numbers #index #trace #the way back #\
+        the walk's lost numbers #";
+    print_difference(words, differs | second, tally.lines[TABLES]);
+    let mut t = one_more_if(tally, TABLES, true);
+    t = one_more_if(t, AGREED, differs == 0);
+    t = with_refusal(t, right.number);
+    t = with_verdict(t, right, rows);
+    if 0 < right.used {
+        with_walk(t, kinds, solved.again)
+    } else {
+        t
+    }
 }
 
-pub fn print(t: Tally) {
+pub fn print_all(tally: Tally) {
     let text: &[u8] =
         b"tables #agreed #  with a place changed after the search #  of these noticed #  \
         with an empty index #  with an index longer than the room #\
@@ -270,10 +158,5 @@ pub fn print(t: Tally) {
         with a path that closes on itself #  with one that closes before its end #  \
         with a path into the living #  with a fall back through 5 doomed states or more #\
         longest fall back #tables with a trigger that starts again as it aborts, and goes on #";
-    let numbers = numbers(t);
-    for n in 0..LINES {
-        print_line(text, n, numbers[n]);
-    }
-    print_seen(t.seen);
-    print_runs(t.runs);
+    print(tally, text, ALL_LINES);
 }

@@ -6,14 +6,13 @@ use Rattle.test_random.proofs.main.Statement.{statement}
 use Rattle.test_random.proofs.main.Tie as tie
 
 abbrev Inv-loop : tie.InvT-loop
-Inv-loop tally₀ files₀ number₀ tally files number = Unit {0}
+Inv-loop tally₀ number₀ tally number = Unit {0}
 
 abbrev μ-loop : tie.MeasureT-loop
-μ-loop tally₀ files₀ number₀ tally files number = 10000 - number
+μ-loop tally₀ number₀ tally number = 10000 - number
 
 pub main-spec : {M : Type 1} → statement M
 main-spec =
-    tie.close (tie.spec Inv-loop μ-loop (λ c κs. search needs) (λ c κs. search needs)
-    (λ c. search needs) (λ c κs. search needs) (λ c κs. search needs) (λ c. search needs)
-    (λ c. search needs) (λ c. search needs) (λ c κs. search needs) (λ c κs. search needs)
-    (λ c. search needs))
+    tie.close (tie.spec Inv-loop μ-loop (λ c κs. search needs) (λ c. search needs)
+    (λ c κs. search needs) (λ c. search needs) (λ c. search needs) (λ c. search needs)
+    (λ c κs. search needs) (λ c. search needs))

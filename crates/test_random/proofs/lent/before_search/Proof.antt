@@ -1,5 +1,5 @@
--- `test_random::lent::before_search` is safe and ends. The invariant: the lists have 512
--- places. The measure: how many places are left. Assumes nothing.
+-- `test_random::lent::before_search` is safe and ends. The invariant: the lists have 512 places.
+-- The measure: how many places are left. Assumes nothing.
 use Prim.Native.Nat.{_-_}
 use borrow.Author.Needs.{needs}
 use lib.ListN.{length}
