@@ -1,11 +1,11 @@
 -- Pieces joined by a byte, put into a buffer one after the other: the byte is put in front of each
 -- but the first. Assumes nothing.
-use Prim.Native.Nat.{ℕ, _+_, _<_}
+use Prim.Native.Nat.{ℕ, _+_, _<_, _≤_}
 use native.Mathlib.Numerals.{add-one}
 use mathlib.Core.Bool.{Bool, true, false, cond}
 use mathlib.Core.List.{List, [], _∷_, _++_, append-nil}
 use mathlib.Core.Path.{_≡_, refl, sym, ap}
-use lib.ListN.{length, getD, drop}
+use lib.ListN.{length, getD, drop, drop-of-length-le}
 use lib.Seq.{drop-cons}
 use Rattle.text.specs.Lines.{joined}
 use Rattle.put.specs.inner.Puts.{Puts}
@@ -55,7 +55,15 @@ module _ {b : ℕ} {whole : List ℕ} {at : ℕ} {buffer : List ℕ} {next : ℕ
   pub pieces-end : pieces ≡ [] → Puts at whole buffer next out
   pieces-end e = putting-end (so-far .putting) (rw e (left-none b later))
 
--- Those from piece i on.
-pub pieces-from : (pieces : List (List ℕ)) (i : ℕ) → i < length pieces
-    → drop i pieces ≡ getD pieces i [] ∷ drop (i + 1) pieces
-pieces-from pieces i h = rw (drop-cons pieces i [] h, add-one)
+-- The same, piece by piece: those from piece k on are left.
+module _ {b : ℕ} {whole : List ℕ} {at : ℕ} {buffer : List ℕ} {next : ℕ} {later : Bool}
+    (pieces : List (List ℕ)) (k : ℕ) {out : List ℕ}
+    (so-far : PuttingPieces b whole at buffer next later (drop k pieces) out) where
+  pub piece-at : k < length pieces → {from : ℕ} {between : List ℕ} {after : ℕ} {exit : List ℕ}
+      → Puts next (cond later (b ∷ []) []) out from between
+      → Puts from (getD pieces k []) between after exit
+      → PuttingPieces b whole at buffer after true (drop (k + 1) pieces) exit
+  piece-at low sign puts = piece-put so-far (rw (drop-cons pieces k [] low, add-one)) sign puts
+
+  pub pieces-past : length pieces ≤ k → Puts at whole buffer next out
+  pieces-past past = pieces-end so-far (drop-of-length-le pieces past)

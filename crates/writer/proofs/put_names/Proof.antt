@@ -6,7 +6,7 @@ use native.Mathlib.Omega.{arith}
 use mathlib.Core.Bool.{true}
 use mathlib.Core.List.{List, [], _∷_, map}
 use mathlib.Core.Path.{_≡_, _∙_}
-use lib.ListN.{length, getD, take, drop, length-map, length-take, drop-of-length-le}
+use lib.ListN.{length, getD, take, drop, length-map, length-take}
 use lib.Seq.{getD-take}
 use Rattle.letters.proofs.Lists.{lt-length-take}
 use Rattle.letters.proofs.Padding.{map-at}
@@ -18,7 +18,7 @@ use Rattle.put.proofs.Puts.{putting-start, putting-length}
 use Rattle.writer.specs.inner.Writing.{behind}
 use Rattle.writer.specs.File.{nameText}
 use Rattle.writer.proofs.Literals.{noChars}
-use Rattle.writer.proofs.Pieces.{PuttingPieces, piece-put, pieces-end, pieces-from}
+use Rattle.writer.proofs.Pieces.{PuttingPieces, piece-at, pieces-past}
 use Rattle.writer.proofs.put_names.Statement.{statement}
 use Rattle.writer.proofs.put_names.Tie as tie
 
@@ -46,12 +46,10 @@ module _ (signals : ℕ) (names : List Name) where
         let word : getD words k [] ≡ nameText (getD names k noChars) =
         map-at nameText (take signals names) noChars [] k here
         ∙ rw (getD-take signals names k noChars low) in
-        piece-put so-far (pieces-from words k (omega (arith, words-many))) blank (rw word puts)
+        piece-at words k so-far (omega (arith, words-many)) blank (rw word puts)
 
     names-put : min signals (length names) ≤ k → Puts at (behind space words) buffer next out
-    names-put past =
-        let none : length words ≤ k = omega (arith, words-many) in
-        pieces-end so-far (drop-of-length-le words none)
+    names-put past = pieces-past words k so-far (omega (arith, words-many))
 
 abbrev Inv-loop : tie.InvT-loop
 Inv-loop out₀ at signals names next₀ k₀ out next k = Left signals names at out₀ next k out

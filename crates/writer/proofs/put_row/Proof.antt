@@ -9,7 +9,7 @@ use mathlib.Core.Bool.{cond}
 use mathlib.Core.List.{List, [], _∷_, _++_}
 use mathlib.Core.Path.{_≡_, ap}
 use lib.Dec.{ltb}
-use lib.ListN.{length, getD, take, drop, drop-of-length-le}
+use lib.ListN.{length, getD, take, drop}
 use Rattle.table.specs.declared.Name.{Name}
 use Rattle.table.specs.declared.Row.{Row}
 use Rattle.text.specs.Lines.{LF, comma, joined}
@@ -19,7 +19,7 @@ use Rattle.put.proofs.Puts.{puts-append, puts-length, putting-after}
 use Rattle.writer.specs.inner.Writing.{fieldValues, fieldText, fieldsFrom}
 use Rattle.writer.specs.File.{rowText}
 use Rattle.writer.proofs.Fields.{Bytes, fields-length, field-at, fields-are}
-use Rattle.writer.proofs.Pieces.{PuttingPieces, piece-put, pieces-end, pieces-from}
+use Rattle.writer.proofs.Pieces.{PuttingPieces, piece-at, pieces-past}
 use Rattle.writer.proofs.put_row.Statement.{statement}
 use Rattle.writer.proofs.put_row.Tie as tie
 
@@ -44,13 +44,11 @@ module _ (names : List Name) (signals : ℕ) (values : List ℕ) where
         → Left at buffer after (k + 1) exit
     field-put low sign puts =
         rw (lt-ltb 0 (k + 1) (omega arith))
-        (piece-put so-far (pieces-from fields k (omega (arith, fields-many))) sign
+        (piece-at fields k so-far (omega (arith, fields-many)) sign
         (rw (field-at names signals k values low) puts))
 
     fields-put : length values ≤ k → Puts at (joined comma fields) buffer next out
-    fields-put past =
-        let none : length fields ≤ k = omega (arith, fields-many) in
-        pieces-end so-far (drop-of-length-le fields none)
+    fields-put past = pieces-past fields k so-far (omega (arith, fields-many))
 
 -- The word, the fields of a row and the line's end.
 line-put : (names : List Name) (signals : ℕ) (values : List ℕ) (row : Row)

@@ -9,7 +9,7 @@ use mathlib.Core.Bool.{Bool, cond}
 use mathlib.Core.List.{List, [], _∷_}
 use mathlib.Core.Path.{_≡_, _∙_}
 use lib.Dec.{ltb}
-use lib.ListN.{length, getD, take, drop, length-take, drop-of-length-le}
+use lib.ListN.{length, getD, take, drop, length-take}
 use Rattle.letters.specs.Letter.{signalOn}
 use Rattle.letters.proofs.Lists.{lt-length-take}
 use Rattle.table.specs.Limits.{mostSignals}
@@ -19,7 +19,7 @@ use Rattle.put.specs.inner.Puts.{Puts}
 use Rattle.put.proofs.Puts.{putting-start, putting-length}
 use Rattle.writer.specs.File.{nameText, literals, termText}
 use Rattle.writer.proofs.Literals.{noChars, literals-length, literal-at}
-use Rattle.writer.proofs.Pieces.{PuttingPieces, piece-put, pieces-end, pieces-from}
+use Rattle.writer.proofs.Pieces.{PuttingPieces, piece-at, pieces-past}
 use Rattle.writer.proofs.put_term.Statement.{statement}
 use Rattle.writer.proofs.put_term.Tie as tie
 
@@ -49,13 +49,11 @@ module _ (signals : ℕ) (names : List Name) (letter : ℕ) where
         let here = lt-length-take signals names k low some in
         let piece = rw (e, ← literal-at signals names letter k low here) at puts in
         rw (lt-ltb 0 (k + 1) (omega arith))
-        (piece-put so-far (pieces-from pieces k (omega (arith, pieces-many))) sign piece)
+        (piece-at pieces k so-far (omega (arith, pieces-many)) sign piece)
 
     term-put : min signals (length names) ≤ k
         → Puts at (termText (take signals names) letter) buffer next out
-    term-put past =
-        let none : length pieces ≤ k = omega (arith, pieces-many) in
-        pieces-end so-far (drop-of-length-le pieces none)
+    term-put past = pieces-past pieces k so-far (omega (arith, pieces-many))
 
 abbrev Inv-loop : tie.InvT-loop
 Inv-loop out₀ at signals letter names next₀ k₀ out next k =
