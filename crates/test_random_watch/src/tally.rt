@@ -72,7 +72,7 @@ pub fn with_again(tally: Tally, before: u8, number: u8, after: u8) -> Tally {
 
 // With a table more, of which `differs` says what differs.
 pub fn counted(tally: Tally, differs: u32) -> Tally {
-    let words: &[u8] = b"a changed place #a watcher's refusal #phases #events #event counts #";
+    let words: &[u8] = b"a changed place #refusal #phases #events #event counts #";
     print_difference(words, differs, tally.lines[TABLES]);
     one_more_if(one_more_if(tally, TABLES, true), AGREED, differs == 0)
 }
