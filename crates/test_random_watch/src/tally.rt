@@ -1,9 +1,8 @@
 // How many ticks of the watcher were compared, how often each event came up in them, and how often
-// a trigger aborted and started again; and how many runs of a load.
+// a trigger aborted and started again.
 use random::rules::ABORTED;
 use random::rules::STARTED;
 use random::tally::Tally;
-use random::tally::more;
 use random::tally::one_more_if;
 use random::tally::print;
 use random::tally::print_difference;
@@ -30,21 +29,7 @@ const AGAIN: usize = 12;
 
 const GOING_ON: usize = 13;
 
-// Runs, those of them that were refused, and those of as many ticks as there may be; how often a
-// total was changed, and how often this was noticed; the triggers realised in them.
-const RUNS: usize = 14;
-
-const RUNS_REFUSED: usize = 15;
-
-const LONGEST_RUNS: usize = 16;
-
-const TOTALS_CHANGED: usize = 17;
-
-const TOTALS_NOTICED: usize = 18;
-
-const REALISED_IN_RUNS: usize = 19;
-
-const ALL_LINES: usize = 20;
+const ALL_LINES: usize = 14;
 
 // The number of events; each has the place of its bit.
 pub const KINDS: usize = 6;
@@ -85,24 +70,9 @@ pub fn with_again(tally: Tally, before: u8, number: u8, after: u8) -> Tally {
     )
 }
 
-// With a run more.
-pub fn with_run(tally: Tally, refused: bool, longest: bool, struck: bool, noticed: bool) -> Tally {
-    let mut next = one_more_if(tally, RUNS, true);
-    next = one_more_if(next, RUNS_REFUSED, refused);
-    next = one_more_if(next, LONGEST_RUNS, longest);
-    next = one_more_if(next, TOTALS_CHANGED, struck);
-    one_more_if(next, TOTALS_NOTICED, struck & noticed)
-}
-
-// With the triggers that a row realised in a run.
-pub fn with_realised(tally: Tally, realised: u16) -> Tally {
-    more(tally, REALISED_IN_RUNS, realised as u32)
-}
-
 // With a table more, of which `differs` says what differs.
 pub fn counted(tally: Tally, differs: u32) -> Tally {
-    let words: &[u8] = b"a changed place #a watcher's refusal #phases #events #event counts #\
-        a load's refusal #totals #";
+    let words: &[u8] = b"a changed place #refusal #phases #events #event counts #";
     print_difference(words, differs, tally.lines[TABLES]);
     one_more_if(one_more_if(tally, TABLES, true), AGREED, differs == 0)
 }
@@ -112,8 +82,6 @@ pub fn print_all(tally: Tally) {
         ticks #  refused #  with an event or a count changed #  of these noticed #\
         triggers started #triggers realised #triggers aborted #\
         actions started #actions completed #rows broken #\
-        triggers started again as they abort #  of these going on #\
-        runs of a load #  refused #  of 65535 ticks #  \
-        with a total changed #  of these noticed #triggers realised in them #";
+        triggers started again as they abort #  of these going on #";
     print(tally, text, ALL_LINES);
 }

@@ -64,8 +64,8 @@ fn put_names(
 }
 
 // "A condition that never holds is `0` and one that always holds is `1`. Otherwise it is one term
-// for each letter that satisfies it, smallest first, joined by `|`; a term joins every signal in file
-// order by `&`, with `!` where it is false."
+// for each letter that satisfies it, smallest first, joined by `|`; a term joins every signal in
+// file order by `&`, with `!` where it is false."
 fn put_condition(
     out: &mut [u8; MOST_BYTES],
     n: usize,

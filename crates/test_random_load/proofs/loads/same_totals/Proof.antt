@@ -1,9 +1,9 @@
--- `test_random_watch::loads::same_totals` is safe and ends. The invariant says nothing. The
+-- `test_random_load::loads::same_totals` is safe and ends. The invariant says nothing. The
 -- measure: how many rows are left. Assumes nothing.
 use Prim.Native.Nat.{_-_}
 use borrow.Author.Needs.{needs}
-use Rattle.test_random_watch.proofs.loads.same_totals.Statement.{statement}
-use Rattle.test_random_watch.proofs.loads.same_totals.Tie as tie
+use Rattle.test_random_load.proofs.loads.same_totals.Statement.{statement}
+use Rattle.test_random_load.proofs.loads.same_totals.Tie as tie
 
 abbrev Inv-loop : tie.InvT-loop
 Inv-loop given right i₀ i = Unit {0}

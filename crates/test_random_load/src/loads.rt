@@ -1,9 +1,5 @@
-// Document 02, ask 5: runs of random loads, the refusal and all totals of each held against a
-// second reading: a generator written from the paper, and the rules of the crate random, row by
-// row. What differs is a set of bits, whose words tally.rt has.
-use crate::tally::with_realised;
-use crate::tally::with_run;
-use crate::watched::Compared;
+// Random loads, and a second reading of document 02, ask 5: a generator written from the paper, and
+// the rules of the crate random, row by row.
 use load::Totals;
 use random::numbers::below;
 use random::numbers::byte_below;
@@ -15,19 +11,15 @@ use random::rules::REALISED;
 use random::rules::code_after;
 use random::rules::events;
 use random::tables::letter_count;
-use random::tally::Tally;
-use random::tally::reported;
-use random::tally::same_number;
-use random::tally::unless;
 use table::MOST_ROWS;
 use table::Row;
 use table::Table;
 
 // "A run has at most 65,535 ticks".
-const MOST_TICKS: u32 = 65535;
+pub const MOST_TICKS: u32 = 65535;
 
 // Any number, and now and then the least or the largest.
-fn any_start(seed: u64) -> u32 {
+pub fn any_start(seed: u64) -> u32 {
     let kind = byte_below(seed ^ 1, 20);
     match kind {
         0 => 0,
@@ -37,7 +29,7 @@ fn any_start(seed: u64) -> u32 {
 }
 
 // Mostly few ticks, seldom as many as there may be, now and then more.
-fn any_ticks(seed: u64) -> u32 {
+pub fn any_ticks(seed: u64) -> u32 {
     if one_in(seed ^ 1, 500) {
         return MOST_TICKS;
     }
@@ -105,7 +97,7 @@ fn row_totals(row: Row, letters: u8, start: u32, ticks: u32) -> Totals {
 }
 
 // The totals that there should be: zeros for a run that is refused, and for a row that is not used.
-fn right_totals(table: Table, taken: bool, start: u32, ticks: u32) -> [Totals; MOST_ROWS] {
+pub fn right_totals(table: Table, taken: bool, start: u32, ticks: u32) -> [Totals; MOST_ROWS] {
     let rows = table.rows;
     let letters = letter_count(table.signals);
     let mut right = [no_totals(); MOST_ROWS];
@@ -124,7 +116,7 @@ fn same_row(a: Totals, b: Totals) -> bool {
         & (a.pending == b.pending)
 }
 
-fn same_totals(given: [Totals; MOST_ROWS], right: [Totals; MOST_ROWS]) -> bool {
+pub fn same_totals(given: [Totals; MOST_ROWS], right: [Totals; MOST_ROWS]) -> bool {
     for i in 0..MOST_ROWS {
         if !same_row(given[i], right[i]) {
             return false;
@@ -146,7 +138,7 @@ fn strike_row(part: u8, totals: Totals) -> Totals {
 }
 
 // One total changed in one row, if one is to be.
-fn strike_totals(seed: u64, given: [Totals; MOST_ROWS], struck: bool) -> [Totals; MOST_ROWS] {
+pub fn strike_totals(seed: u64, given: [Totals; MOST_ROWS], struck: bool) -> [Totals; MOST_ROWS] {
     let mut changed = given;
     let at = byte_below(seed ^ 1, 8) as usize;
     let part = byte_below(seed ^ 2, 4);
@@ -159,44 +151,12 @@ fn strike_totals(seed: u64, given: [Totals; MOST_ROWS], struck: bool) -> [Totals
 }
 
 // "22 a longer run is asked for, after 17": the number, or 0 if the run is taken.
-fn run_number(valid: bool, ticks: u32) -> u8 {
+pub fn run_number(valid: bool, ticks: u32) -> u8 {
     if !valid {
         17
     } else if MOST_TICKS < ticks {
         22
     } else {
         0
-    }
-}
-
-// With the triggers that the rows realised.
-fn with_all_realised(tally: Tally, totals: [Totals; MOST_ROWS]) -> Tally {
-    let mut all = tally;
-    for i in 0..MOST_ROWS {
-        let row = totals[i];
-        all = with_realised(all, row.realised);
-    }
-    all
-}
-
-// Runs a table for some ticks from some number, and compares. In one table of twenty a total in the
-// answer is changed first.
-pub fn run_load(seed: u64, table: Table, valid: bool, tally: Tally) -> Compared {
-    let own = mixed(seed);
-    let start = any_start(own ^ 1);
-    let ticks = any_ticks(own ^ 2);
-    let struck = one_in(own ^ 3, 20);
-    let number = run_number(valid, ticks);
-    let right = right_totals(table, number == 0, start, ticks);
-    let ran = load::run(table, start, ticks);
-    let outcome = ran.outcome;
-    let totals = ran.totals;
-    let given = strike_totals(own ^ 4, totals, struck);
-    let same = same_totals(given, right);
-    let longest = (number == 0) & (ticks == MOST_TICKS);
-    let counted = with_run(tally, number != 0, longest, struck, !same);
-    Compared {
-        differs: unless(same_number(outcome, number), 5) | reported(struck, unless(same, 6)),
-        tally: with_all_realised(counted, right),
     }
 }
