@@ -1,5 +1,7 @@
 // Letters, and sets of letters as numbers: letter l is in the set where bit l is 1.
 // specs/Letter.antt says what is right.
+#![tactic(auto)]
+
 ghost use Rattle.std.specs.Prelude.{◌≡◌, true, ◌&&◌, not, eqb};
 ghost use Rattle.letters.specs.Lists.{within};
 ghost use Rattle.letters.specs.Letter.{signal_on, in_set, letter_valid, set_valid, width, set_of};

@@ -4,11 +4,10 @@ use native.Mathlib.Omega.{arith}
 use lib.Count.{trailing_le}
 use Rattle.letters.specs.Letter.{set_bits}
 use Rattle.letters.proofs.Lowest.{zeros_least}
-use Rattle.letters.proofs.least.Statement.{statement}
-use Rattle.letters.proofs.least.Tie as tie
+use Rattle.letters.proofs.least.Goals as goal
 
-returns : tie.Need-returns
+pub returns : goal.returns
 returns c = zeros_least c.args.set
 
-pub least-spec : {M : Type 1} → statement M
-least-spec = tie.close (tie.spec (λ c. omega (arith, trailing_le set_bits c.args.set)) returns)
+pub overflow_cast-result : goal.overflow_cast-result
+overflow_cast-result c = omega (arith, trailing_le set_bits c.args.set)

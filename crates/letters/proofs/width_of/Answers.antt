@@ -8,20 +8,16 @@ use lib.Pow.{pow_mono, shl_exact}
 use native.Mathlib.Nat.{one-mul}
 use Rattle.letters.specs.Letter.{set_bits}
 use Rattle.letters.proofs.Bits.{set_signals}
-use Rattle.letters.proofs.width_of.Statement.{statement}
-use Rattle.letters.proofs.width_of.Tie as tie
+use Rattle.letters.proofs.width_of.Goals as goal
 
-returns : tie.Need-returns
-returns c =
+pub returns-then-signals-lt-SET_SIGNALS : goal.returns-then-signals-lt-SET_SIGNALS
+returns-then-signals-lt-SET_SIGNALS c =
     let s = c.before.args.signals in
     let few : 2 ^ s ≤ 32 = pow_mono {i = s} {j = 5} (omega arith) in
     rw (shl_exact {a = 1} 1 s 8 (lit< tt) (omega arith), one-mul (2 ^ s)) (omega arith)
 
-returns-2 : tie.Need-returns-2
-returns-2 c =
+pub returns-else-signals-lt-SET_SIGNALS : goal.returns-else-signals-lt-SET_SIGNALS
+returns-else-signals-lt-SET_SIGNALS c =
     let s = c.before.args.signals in
-    let many : set_bits ≤ 2 ^ s = pow_mono {i = set_signals} {j = s} c.if1.false in
+    let many : set_bits ≤ 2 ^ s = pow_mono {i = set_signals} {j = s} c.if-signals-lt-SET_SIGNALS.false in
     omega arith
-
-pub width-of-spec : {M : Type 1} → statement M
-width-of-spec = tie.close (tie.spec (λ c. search rules) returns returns-2)
