@@ -14,14 +14,14 @@ use table::{MOST_SIGNALS, NAME_CHARS, Name};
 const MOST_OPEN: usize = 8;
 
 // What was read: the set of letters, whether a name is unknown, and the place past it; or nothing.
-#[derive(Drop)]
+#[derive(Clone, Copy)]
 pub enum Read {
     Set(u64, bool, usize),
     Nothing,
 }
 
 // What is said of a condition: its set of letters, or the number for which it is turned down.
-#[derive(Drop)]
+#[derive(Clone, Copy)]
 pub enum Judged {
     Letters(u64),
     Refused(u8),

@@ -12,7 +12,7 @@ use table::{MOST_SIGNALS, NAME_CHARS, Name};
 use text::Version;
 
 // What line 1 is read as: the version of the file; or its number, 4 or 5.
-#[derive(Drop)]
+#[derive(Clone, Copy)]
 pub enum VersionRead {
     Known(Version),
     Refused(u8),
@@ -20,7 +20,7 @@ pub enum VersionRead {
 
 // Line 2: its number, or 0; and the names, of which the first `count` are used. Under a number all
 // is 0.
-#[derive(Drop)]
+#[derive(Clone, Copy)]
 pub struct Signals {
     pub number: u8,
     pub count: u8,
@@ -91,7 +91,7 @@ fn turned_down(number: u8) -> Signals
 }
 
 // The names read so far.
-#[derive(Drop)]
+#[derive(Clone, Copy)]
 struct Kept {
     names: [Name; MOST_SIGNALS],
 }

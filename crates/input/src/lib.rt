@@ -9,7 +9,7 @@ const MOST_READ: usize = 4097;
 
 // What one call of the C library's `read` brought: so many bytes, the end of the input, or nothing
 // since it failed.
-#[derive(Drop)]
+#[derive(Clone, Copy)]
 pub enum Piece {
     Bytes(usize),
     End,
@@ -18,7 +18,7 @@ pub enum Piece {
 
 // What is read of an input: so many bytes, all of them or as many as the buffer takes; or that
 // reading failed.
-#[derive(Drop)]
+#[derive(Clone, Copy)]
 pub enum Input {
     Read(usize),
     Failed,

@@ -27,7 +27,7 @@ const PART: u32 = 67108864;
 
 // What a row did: how often its trigger was realised and its action completed, whether it broke,
 // and whether it is open at the end.
-#[derive(Drop)]
+#[derive(Clone, Copy)]
 pub struct Totals {
     pub realised: u16,
     pub completed: u16,
@@ -36,7 +36,7 @@ pub struct Totals {
 }
 
 // The same of several rows together.
-#[derive(Drop)]
+#[derive(Clone, Copy)]
 pub struct Sums {
     pub realised: u32,
     pub completed: u32,
@@ -46,7 +46,7 @@ pub struct Sums {
 
 // What a run gives: whether it was taken, and the totals of each row, which are 0 if it was
 // refused, and for a row that is not used.
-#[derive(Drop)]
+#[derive(Clone, Copy)]
 pub struct Ran {
     pub outcome: Outcome,
     pub totals: [Totals; MOST_ROWS],

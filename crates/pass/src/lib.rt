@@ -15,27 +15,27 @@ use step::{Events, Phase};
 use table::{MOST_ROWS, Outcome, Refusal, Row};
 
 // A row's place in the record.
-#[derive(Drop)]
+#[derive(Clone, Copy)]
 pub struct Slot {
     pub phase: Phase,
 }
 
 // The watcher's state: the phase of each row, in file order. An unused row is waiting.
-#[derive(Drop)]
+#[derive(Clone, Copy)]
 pub struct Watch {
     pub slots: [Slot; MOST_ROWS],
 }
 
 // What a tick says: whether it was taken, and what happened to each row, which is nothing if it was
 // refused.
-#[derive(Drop)]
+#[derive(Clone, Copy)]
 pub struct Reply {
     pub outcome: Outcome,
     pub events: [Events; MOST_ROWS],
 }
 
 // What a tick gives, and the state after it, which is the old one if it was refused.
-#[derive(Drop)]
+#[derive(Clone, Copy)]
 pub struct Ticked {
     pub reply: Reply,
     pub watch: Watch,
@@ -43,7 +43,7 @@ pub struct Ticked {
 
 // Whether the rows (17) and the phases (18) passed so far, and the state with the rows so far moved
 // on, with what happened to each.
-#[derive(Drop)]
+#[derive(Clone, Copy)]
 pub struct Pass {
     pub signals: u8,
     pub letter: u8,

@@ -57,7 +57,7 @@ fn any_set(seed: u64, signals: u8) -> u64 {
 }
 
 // A least and a most bound.
-#[derive(Drop)]
+#[derive(Clone, Copy)]
 struct Range {
     least: u8,
     most: u8,
@@ -180,7 +180,7 @@ pub fn wide_table(seed: u64) -> Table {
 
 // A table of some number: what else is chosen for it comes from the seed. What is given to a call
 // is the table, or now and then the table with a fault, and then it is not valid.
-#[derive(Drop)]
+#[derive(Clone, Copy)]
 pub struct Case {
     pub seed: u64,
     pub table: Table,

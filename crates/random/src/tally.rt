@@ -9,7 +9,7 @@ pub const LINES: usize = 32;
 // Counts stop here.
 const MOST: usize = 1_000_000_000;
 
-#[derive(Drop)]
+#[derive(Clone, Copy)]
 pub struct Tally {
     pub lines: [usize; LINES],
 }

@@ -14,7 +14,7 @@ use table::{
 use text::{LF, Version};
 
 // What a file is read as. The table of a refused file is empty: everything in it is 0.
-#[derive(Drop)]
+#[derive(Clone, Copy)]
 pub struct Reading {
     pub outcome: Outcome,
     pub table: Table,

@@ -19,14 +19,14 @@ use text::{Bound, Version};
 pub const BOUNDS: usize = 6;
 
 // What a field holds: a set of letters or a bound; or the number for which it is turned down.
-#[derive(Drop)]
+#[derive(Clone, Copy)]
 pub enum Field {
     Value(u64),
     Refused(u8),
 }
 
 // A row's line: its number, or 0; its six sets and its six bounds. Under a number all is 0.
-#[derive(Drop)]
+#[derive(Clone, Copy)]
 pub struct RowRead {
     pub number: u8,
     pub sets: [u64; CONDITIONS],
@@ -81,7 +81,7 @@ fn read_field(rest: &[u8], end: usize, k: usize, names: [Name; MOST_SIGNALS], si
 
 // The twelve fields of a line: the first number, from the left, or 0; and what they hold. Under a
 // number all is 0.
-#[derive(Drop)]
+#[derive(Clone, Copy)]
 struct Values {
     number: u8,
     values: [u64; FIELDS],

@@ -1,5 +1,7 @@
 // The step rules: a row's phase, and what one letter does to it. specs/Phase.antt and
 // specs/Step.antt say what is right, specs/Events.antt what happens at it.
+#![tactic(auto)]
+
 ghost use Rattle.std.specs.Prelude.{false, ◌≡◌};
 ghost use Rattle.step.specs.declared.Phase.TheVariants.{Waiting, Broken};
 ghost use Rattle.step.specs.Step.{action_check, delay_check, trigger_check};
@@ -11,7 +13,7 @@ ghost use Rattle.step.specs.Inner.Check.{check_of};
 use table::{AC, AEE, ASE, Row, TC, TEE, TSE};
 
 // A row is waiting, or in trigger, delay or action with its elapsed ticks, or broken.
-#[derive(Drop)]
+#[derive(Clone, Copy)]
 pub enum Phase {
     Waiting,
     Trigger(u8),
@@ -22,7 +24,7 @@ pub enum Phase {
 
 // What can happen to a row at a tick: its trigger starts, is realised or is aborted; its action
 // starts (`acting`) or is completed; the row becomes broken.
-#[derive(Drop)]
+#[derive(Clone, Copy)]
 pub struct Events {
     pub started: bool,
     pub realised: bool,
@@ -33,14 +35,14 @@ pub struct Events {
 }
 
 // What one letter does to a row.
-#[derive(Drop)]
+#[derive(Clone, Copy)]
 pub struct Stepped {
     pub phase: Phase,
     pub events: Events,
 }
 
 // How the check of a phase ends: the phase is done, continues with so many elapsed ticks, or fails.
-#[derive(Drop)]
+#[derive(Clone, Copy)]
 pub enum Check {
     Done,
     Continue(u8),

@@ -1,4 +1,6 @@
 // Some rows of a table, as a table of their own. specs/Subtable.antt says what is right.
+#![tactic(auto)]
+
 ghost use Rattle.std.specs.Prelude.{min, ◌≡◌};
 ghost use Rattle.table.specs.Limits.{most_rows};
 ghost use Rattle.table.specs.Row.{zero_row};

@@ -1,5 +1,7 @@
 // Table values: what the reader gives, and what the watcher and the search take; and the test for
 // number 17. specs/Limits.antt, Row.antt, Name.antt and Valid.antt say what is right.
+#![tactic(auto)]
+
 pub mod names;
 pub mod rows;
 
@@ -36,7 +38,7 @@ pub const AEE: usize = 5;
 pub const FIELDS: usize = 12;
 
 // A row: its six conditions as sets of letters, and the bounds of trigger, delay and action.
-#[derive(Drop)]
+#[derive(Clone, Copy)]
 pub struct Row {
     pub sets: [u64; CONDITIONS],
     pub tmin: u8,
@@ -48,13 +50,13 @@ pub struct Row {
 }
 
 // A signal's name: its letters a-z, then zeros.
-#[derive(Drop)]
+#[derive(Clone, Copy)]
 pub struct Name {
     pub chars: [u8; NAME_CHARS],
 }
 
 // A table value. The first `signals` names and the first `count` rows are used; the others are 0.
-#[derive(Drop)]
+#[derive(Clone, Copy)]
 pub struct Table {
     pub signals: u8,
     pub names: [Name; MOST_SIGNALS],
@@ -63,14 +65,14 @@ pub struct Table {
 }
 
 // Why a file or a call is turned down: document 01's number, and the line that it names or 0.
-#[derive(Drop)]
+#[derive(Clone, Copy)]
 pub struct Refusal {
     pub number: u8,
     pub line: u8,
 }
 
 // Whether a file or a call was taken.
-#[derive(Drop)]
+#[derive(Clone, Copy)]
 pub enum Outcome {
     Accepted,
     Refused(Refusal),

@@ -108,7 +108,7 @@ fn largest_sums(count: u8) {
 }
 
 // A text and its length. What it has no place for is not in it.
-#[derive(Drop)]
+#[derive(Clone, Copy)]
 struct Text {
     length: usize,
     bytes: [u8; ROOM],

@@ -12,7 +12,7 @@ pub const TRAPPED: u8 = 2;
 // and set of rows that never fire, with those of them that a broken trace realises. With it goes
 // what the lent lists hold: the scratch has `used` entries, and the rest of it and the whole index
 // are 0 if `cleared` and else unchanged. The trace buffer has `length` letters, the rest unchanged.
-#[derive(Drop)]
+#[derive(Clone, Copy)]
 pub struct Expected {
     pub number: u8,
     pub verdict: u8,

@@ -66,7 +66,7 @@ fn any_index(seed: u64, room: usize) -> usize
 }
 
 // The lengths of the four lent lists.
-#[derive(Drop)]
+#[derive(Clone, Copy)]
 pub struct Lengths {
     pub states: usize,
     pub lost: usize,
@@ -124,7 +124,7 @@ fn rubbish_u8(key: u64, i: usize) -> u8 {
 }
 
 // What the lists hold.
-#[derive(Drop)]
+#[derive(Clone, Copy)]
 pub struct Held {
     pub states: [u64; LONGEST],
     pub lost: [u16; LONGEST],

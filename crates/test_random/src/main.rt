@@ -18,7 +18,7 @@ use tally::{counted, noted, print_all};
 use verdict::Found;
 
 // What a search finds, and what it leaves in the lists.
-#[derive(Drop)]
+#[derive(Clone, Copy)]
 struct Searched {
     found: Found,
     after: Held,

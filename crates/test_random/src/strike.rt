@@ -13,7 +13,7 @@ const NEVER: u8 = 4;
 const BITS: usize = 64;
 
 // A place of a list; or none, where there is no such list.
-#[derive(Drop)]
+#[derive(Clone, Copy)]
 pub struct Strike {
     pub list: u8,
     pub at: usize,

@@ -15,14 +15,14 @@ use table::{MOST_ROWS, Table};
 use watcher::Played;
 
 // What differs, with what is counted.
-#[derive(Drop)]
+#[derive(Clone, Copy)]
 pub struct Compared {
     pub differs: u32,
     pub tally: Tally,
 }
 
 // What a tick should give: its number or 0, and each row's events and code after it.
-#[derive(Drop)]
+#[derive(Clone, Copy)]
 struct Right {
     number: u8,
     events: [u8; MOST_ROWS],
@@ -69,7 +69,7 @@ fn same_codes(watch: Watch, codes: [u8; MOST_ROWS]) -> bool {
 }
 
 // An event of a row that is changed before it is compared: none is, if there is no such row.
-#[derive(Drop)]
+#[derive(Clone, Copy)]
 struct Strike {
     row: usize,
     event: u8,
@@ -121,7 +121,7 @@ fn with_rights(tally: Tally, before: [u8; MOST_ROWS], right: Right) -> Tally {
 
 // Where a trace has come to: the watcher's state, the codes of the second reading and how often
 // each event came up in it, the number of the first refusal, and what differs so far.
-#[derive(Drop)]
+#[derive(Clone, Copy)]
 struct Course {
     watch: Watch,
     codes: [u8; MOST_ROWS],

@@ -7,7 +7,7 @@ use random::tally::{same_number, unless};
 use table::{MOST_BYTES, Outcome};
 
 // The number of a refusal or 0, and the length, which is 0 under a refusal.
-#[derive(Drop)]
+#[derive(Clone, Copy)]
 pub struct Expected {
     pub number: u8,
     pub length: usize,

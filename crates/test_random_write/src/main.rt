@@ -46,7 +46,7 @@ fn any_lent(seed: u64, length: usize) -> usize
 }
 
 // What a call answers, and the bytes after it.
-#[derive(Drop)]
+#[derive(Clone, Copy)]
 struct Call {
     outcome: Outcome,
     length: usize,

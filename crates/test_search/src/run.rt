@@ -24,7 +24,7 @@ const NUMBERS: usize = 7;
 pub const ALL: usize = 15007;
 
 // The answer, the list, and how many places of the index hold 0 and how many still hold 7.
-#[derive(Drop)]
+#[derive(Clone, Copy)]
 pub struct Ran {
     pub found: Found,
     pub held: [u64; ALL],

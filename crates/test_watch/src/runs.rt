@@ -25,7 +25,7 @@ pub(crate) const ALL_COUNTS: usize = MOST_ROWS * KINDS;
 // The outcome and the state after the trace; how many ticks were made, and the events of each as
 // numbers, which a trace that was played does not give; and how often each event happened. A
 // refused tick is the last, and the counts are then 0.
-#[derive(Drop)]
+#[derive(Clone, Copy)]
 pub(crate) struct Run {
     pub outcome: Outcome,
     pub watch: Watch,

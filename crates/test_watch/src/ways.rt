@@ -11,7 +11,7 @@ use table::{MOST_ROWS, Outcome, Refusal, Table};
 const MOST_CASES: u16 = 9999;
 
 // How many cases were answered alike all ways, and how many not.
-#[derive(Drop)]
+#[derive(Clone, Copy)]
 pub(crate) struct Tally {
     pub alike: u16,
     pub unlike: u16,

@@ -22,7 +22,7 @@ fn numbered(word: &[u8], n: u64) {
 }
 
 // What a call answers, and the bytes after it.
-#[derive(Drop)]
+#[derive(Clone, Copy)]
 struct Call {
     written: Written,
     bytes: [u8; ROOM],

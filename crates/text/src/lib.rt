@@ -1,5 +1,7 @@
 // Bytes of a line: where one stands, how many there are, what it begins with; and bounds.
 // specs/Inner/Cut.antt says what is computed, specs/Bounds.antt which bytes are bounds.
+#![tactic(auto)]
+
 ghost use Rattle.std.specs.Prelude.{◌≡◌, length};
 ghost use Rattle.text.specs.Inner.Cut.{starts_with, front};
 ghost use Rattle.text.specs.Lines.{count};
@@ -11,13 +13,13 @@ use table::MOST_TICKS;
 pub const LF: u8 = 10;
 
 // The versions of a table file that are read.
-#[derive(Drop)]
+#[derive(Clone, Copy)]
 pub enum Version {
     First,
 }
 
 // What a field for a bound holds.
-#[derive(Drop)]
+#[derive(Clone, Copy)]
 pub enum Bound {
     Value(u8),
     Wrong,

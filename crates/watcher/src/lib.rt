@@ -12,7 +12,7 @@ use step::Phase;
 use table::{MOST_ROWS, Outcome, Row, Table};
 
 // How often each event happened to a row.
-#[derive(Drop)]
+#[derive(Clone, Copy)]
 pub struct Counts {
     pub started: u64,
     pub realised: u64,
@@ -24,7 +24,7 @@ pub struct Counts {
 
 // What a trace of ticks gives: whether it was taken; the state after it; and how often each event
 // happened to each row. If it was refused the state is the old one, and the counts are 0.
-#[derive(Drop)]
+#[derive(Clone, Copy)]
 pub struct Played {
     pub outcome: Outcome,
     pub watch: Watch,

@@ -13,7 +13,7 @@ use table::{FIELDS, MOST_BYTES, MOST_ROWS, MOST_SIGNALS, Name, Outcome, Refusal,
 use text::LF;
 
 // Whether a table was written, and how long its file is: 0 where it was not.
-#[derive(Drop)]
+#[derive(Clone, Copy)]
 pub struct Written {
     pub outcome: Outcome,
     pub length: usize,

@@ -1,5 +1,4 @@
 -- `letters::all` meets its contract: n letters from 0 on are the number 2^n - 1. Assumes nothing.
-use borrow.Author.Rules.{rules}
 use native.Mathlib.Omega.{arith}
 use mathlib.Core.Path.{◌≡◌, sym}
 use lib.Pow.{pow_pos}

@@ -1,5 +1,4 @@
 -- `letters::is_least` meets its contract. Assumes nothing.
-use borrow.Author.Rules.{rules}
 use mathlib.Core.Path.{refl}
 use Rattle.letters.proofs.is_least.Goals as goal
 

@@ -1,6 +1,5 @@
 -- `letters::letter_valid` meets its contract: from eight signals on, every letter that a byte holds
 -- is one of theirs. Assumes nothing.
-use borrow.Author.Rules.{rules}
 use borrow.Author.Tests.{lt-ltb}
 use native.Mathlib.Nat.{lt_of_lt_of_le}
 use native.Mathlib.Omega.{arith}

@@ -1,7 +1,6 @@
 -- `letters::others` meets its contract: a set has the letters of its own that so many signals have,
 -- taken from all of those. Assumes nothing.
 use Prim.Native.Nat.{ℕ, ◌^◌, ◌-◌, ◌%◌}
-use borrow.Author.Rules.{rules}
 use native.Mathlib.Nat.{mod-lt}
 use native.Mathlib.Omega.{arith}
 use mathlib.Core.Bool.{not}

@@ -1,7 +1,6 @@
 -- `letters::set_valid` meets its contract: from six signals on, every set of 64 bits has only their
 -- letters. Assumes nothing.
 use Prim.Native.Nat.{◌≤◌, ◌^◌}
-use borrow.Author.Rules.{rules}
 use borrow.Author.Tests.{lt-ltb}
 use native.Mathlib.Nat.{lt_of_lt_of_le}
 use native.Mathlib.Omega.{arith}

@@ -1,6 +1,6 @@
 -- `letters::signal_set` meets its contract. The invariant: the set has the letters below l at which
 -- the signal is on. The measure: how many letters are left. Assumes nothing.
-use Prim.Native.Nat.{◌≤◌, ◌<◌, ◌-◌}
+use Prim.Native.Nat.{◌<◌}
 use borrow.Author.Rules.{rules}
 use native.Mathlib.Omega.{arith}
 use mathlib.Core.Logic.{⊎_elim}

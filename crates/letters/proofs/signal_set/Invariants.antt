@@ -1,14 +1,8 @@
 -- `letters::signal_set` meets its contract. The invariant: the set has the letters below l at which
 -- the signal is on. The measure: how many letters are left. Assumes nothing.
-use Prim.Native.Nat.{◌≤◌, ◌<◌, ◌-◌}
-use borrow.Author.Rules.{rules}
-use native.Mathlib.Omega.{arith}
-use mathlib.Core.Logic.{⊎_elim}
-use mathlib.Core.Bool.{true, false}
-use mathlib.Core.Path.{◌≡◌, refl, sym, ◌∙◌}
-use Rattle.letters.specs.Letter.{signal_on, set_of, width, set_bits}
-use Rattle.letters.proofs.Bits.{one_shifted}
-use Rattle.letters.proofs.Sets.{set_of_lt, one_more, room}
+use Prim.Native.Nat.{◌≤◌, ◌-◌}
+use mathlib.Core.Path.{◌≡◌}
+use Rattle.letters.specs.Letter.{signal_on, set_of}
 use Rattle.letters.proofs.signal_set.Given as goal
 
 abbrev pub invariant-loop-l : goal.invariant-loop-l

@@ -1,7 +1,6 @@
 -- `letters::width_of` meets its contract: below six signals there are at most 32 letters, from six
 -- on at least 64. Assumes nothing.
 use Prim.Native.Nat.{◌≤◌, ◌^◌}
-use borrow.Author.Rules.{rules}
 use native.Mathlib.Omega.{arith}
 use lib.Dec.{lit<}
 use lib.Pow.{pow_mono, shl_exact}

@@ -1,0 +1,6 @@
+-- `step::aborts` meets its contract: one event. Assumes nothing.
+use borrow.Author.Rules.{rules}
+use Rattle.step.proofs.aborts.Goals as goal
+
+pub returns : goal.returns
+returns c = rw c.before.goes_on-lapsed.ensures

@@ -1,0 +1,6 @@
+-- `step::completes` meets its contract: one event. Assumes nothing.
+use borrow.Author.Rules.{rules}
+use Rattle.step.proofs.completes.Goals as goal
+
+pub returns : goal.returns
+returns c = rw c.before.goes_on-stepped.ensures

@@ -1,0 +1,6 @@
+-- `step::delay_start` meets its contract: one event more. Assumes nothing.
+use borrow.Author.Rules.{rules}
+use Rattle.step.proofs.delay_start.Goals as goal
+
+pub returns : goal.returns
+returns c = rw c.before.delay_check-stepped.ensures

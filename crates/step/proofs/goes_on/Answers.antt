@@ -1,0 +1,6 @@
+-- `step::goes_on` meets its contract: no event. Assumes nothing.
+use borrow.Author.Rules.{rules}
+use Rattle.step.proofs.goes_on.Goals as goal
+
+pub returns : goal.returns
+returns c = rw c.no_events.ensures
