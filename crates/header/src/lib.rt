@@ -1,5 +1,7 @@
 // Reading lines 1 and 2: the version, and the names of the signals. specs/Header.antt says what is
 // right, specs/Inner/Header.antt which of 4 to 8 other bytes get.
+#![tactic(auto)]
+
 ghost use Rattle.std.specs.Prelude.{◌≡◌};
 ghost use Rattle.text.specs.Lines.{space};
 ghost use Rattle.text.specs.Inner.Cut.{split};
