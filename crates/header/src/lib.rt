@@ -111,6 +111,7 @@ fn with_name(kept: Kept, n: usize, name: Name) -> Kept
 }
 
 // The first n names that were read; or 6, 7 or 8, in this order.
+#[tactic(auto, unfolding(crate::specs::Inner::Gathering::names_answer))]
 fn judge_names(kept: Kept, n: usize) -> Signals
     ensures { result ≡ names_answer kept.names n }
 {

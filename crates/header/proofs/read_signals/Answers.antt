@@ -94,7 +94,7 @@ loop-at-preserved c =
     let w = word line from c.find.ensures in
     let is = part line from c.find.ensures in
     let within = fits line from c.find.ensures (omega arith) in
-    let right = ap name_shaped (sym is) ∙ sym c.is_name.ensures ∙ c.if-not-is_name.false in
+    let right : name_shaped w ≡ true = cc in
     let name = c.name_of-name.ensures
     ∙ ap name_of (ap (take 8) is ∙ take_all 8 w (shaped_name w right).few) in
     let more = c.with_name-kept.ensures ∙ ap (name_added c.loop-at.kept.names c.loop-at.n) name in (
