@@ -13,7 +13,7 @@ use Rattle.letters.specs.Letter.{letters, width, set_valid}
 use Rattle.letters.specs.Lists.{every}
 use Rattle.letters.proofs.Lists.{every_replicate}
 use Rattle.letters.proofs.Sets.{set_of_lt}
-use Rattle.table.specs.Limits.{most_signals, most_rows, most_ticks}
+use Rattle.table.specs.Limits.{most_signals, most_ticks}
 use Rattle.table.specs.Row.{row_valid}
 use Rattle.table.specs.Name.{name_valid, name_unused, all_distinct}
 use Rattle.table.specs.Valid.{rows_valid, names_valid, table_valid}
