@@ -12,21 +12,15 @@ use lib.Pow.{shr-shr}
 use Rattle.letters.specs.Letter.{bit_at, signal_on, bit}
 use Rattle.letters.proofs.Bits.{bit_eqb}
 use Rattle.put.specs.Inner.Puts.{Puts, last_place}
-use Rattle.put.proofs.Puts.{Putting, putting_start, putting_on, putting_end}
+use Rattle.put.proofs.Puts.{putting_start, putting_on, putting_end}
 use Rattle.put.proofs.Puts.{putting_length}
 use Rattle.lines.specs.Line.{signal_values}
-use Rattle.lines.proofs.signal_values.Statement.{statement}
-use Rattle.lines.proofs.signal_values.Tie as tie
+use Rattle.lines.proofs.signal_values.Invariants.{Done}
+use Rattle.lines.proofs.signal_values.Goals as goal
 
-record Done (out₀ : List ℕ) (at signals letter : ℕ) (out : List ℕ) (next rest k : ℕ) : Type 0 where
-  pub putting : Putting at (signal_values signals 0 letter) out₀ next
-      (signal_values (signals - k) k letter) out
-  pub rest_is : rest ≡ letter / 2 ^ k
-  pub few : k ≤ signals
-
-done-start : (out : List ℕ) (at signals letter : ℕ) → length out ≤ last_place → at ≤ last_place
+done_start : (out : List ℕ) (at signals letter : ℕ) → length out ≤ last_place → at ≤ last_place
     → Done out at signals letter out at letter 0
-done-start out at signals letter short near =
+done_start out at signals letter short near =
     let all : signals - 0 ≡ signals = omega arith in
     let whole : letter ≡ letter / 2 ^ 0 = omega arith in
     record {
@@ -41,10 +35,10 @@ module _ {out₀ : List ℕ} {at signals letter : ℕ} {out : List ℕ} {next re
   unfolding bit_at
   value = rw done.rest_is (ap (◌+◌ 48) (bit_eqb (letter / 2 ^ k % 2) (omega arith)))
 
-  left-values : k < signals → signal_values (signals - k) k letter
+  left_values : k < signals → signal_values (signals - k) k letter
       ≡ (48 + rest % 2) ∷ signal_values (signals - (k + 1)) (k + 1) letter
   unfolding signal_values
-  left-values h =
+  left_values h =
       let more : signals - k ≡ suc (signals - (k + 1)) = omega arith in
       rw (more, add-one k, value)
 
@@ -56,36 +50,21 @@ module _ {out₀ : List ℕ} {at signals letter : ℕ} {out : List ℕ} {next re
       → Puts next ((48 + rest % 2) ∷ []) out after exit
       → Done out₀ at signals letter exit after (rest / 2) (k + 1)
   done_next h byte = record {
-    putting = putting_on done.putting (_ ∷ []) _ (left-values h) byte;
+    putting = putting_on done.putting (_ ∷ []) _ (left_values h) byte;
     rest_is = rw done.rest_is (shr-shr letter k 1);
     few = omega arith;
   }
 
-abbrev invariant-loop : tie.invariant-loop
-invariant-loop out₀ at signals letter next₀ rest₀ k₀ out next rest k =
-    Done out₀ at signals letter out next rest k
+pub loop-k-init : goal.loop-k-init
+loop-k-init c = done_start _ _ _ _ (search rules) (search rules)
 
-abbrev decreases-loop : tie.decreases-loop
-decreases-loop out₀ at signals letter next₀ rest₀ k₀ out next rest k = signals - k
+pub loop-k-preserved : goal.loop-k-preserved
+loop-k-preserved c =
+    done_next c.loop-k.invariant c.loop-k-test.true c.byte-next.ensures
 
-loop-holds : tie.Need-loop-init invariant-loop decreases-loop
-loop-holds c = done-start _ _ _ _ (search rules) (search rules)
+pub shape_of-out : goal.shape_of-out
+shape_of-out c = putting_length c.loop-k.invariant.putting
 
-loop-again : tie.Need-loop-preserved invariant-loop decreases-loop
-loop-again c =
-    let byte = c.before.before in
-    let test = byte.before.before in
-    done_next test.before.loop.invariant test.loop-test.true byte.byte.ensures
-
-same_length : tie.Need-same-length invariant-loop decreases-loop
-same_length c = putting_length c.before.loop.invariant.putting
-
-returns : tie.Need-returns invariant-loop decreases-loop
-returns c = putting_end c.before.loop.invariant.putting (none_left c.before.loop.invariant
-    c.loop-test.false)
-
-pub signal-values-spec : {M : Type 1} → statement M
-signal-values-spec =
-    tie.close (tie.spec
-    invariant-loop decreases-loop loop-holds (λ c. search rules) (λ c κs. search rules) (λ c. search rules)
-    (λ c. search rules) loop-again same_length returns)
+pub returns : goal.returns
+returns c =
+    putting_end c.loop-k.invariant.putting (none_left c.loop-k.invariant c.loop-k-test.false)
