@@ -1,5 +1,7 @@
 // A table value as a file of version 0001, in one way, to the byte. specs/File.antt says what is
 // right, for every value and every lent buffer.
+#![tactic(auto)]
+
 ghost use Rattle.std.specs.Prelude.{cond, [], ◌∷◌, ◌++◌, map, ◌≡◌, take};
 ghost use Rattle.letters.specs.Letter.{width, members};
 ghost use Rattle.text.specs.Lines.{LF as lineEnd, ended, joined, space};
