@@ -11,7 +11,7 @@ use Rattle.put.proofs.Puts.{puts_written}
 use Rattle.writer.specs.declared.Written.{Written}
 use Rattle.writer.specs.Inner.Writing.{not_written}
 use Rattle.writer.specs.File.{file_text, WriteCall, unwritten}
-use Rattle.writer.proofs.Answers.{is17, is23, is24, is_written, case_answer}
+use Rattle.writer.proofs.Answers.{is17, is24, is_written, case_answer}
 use Rattle.writer.proofs.write.Goals as goal
 
 -- A call that answers a number, and one that writes.
@@ -34,27 +34,18 @@ returns-then-not-valid c =
     refused_call c.refused.ensures
     (case_answer _ _ (is17 (sym c.valid.ensures ∙ c.if-not-valid.true)))
 
-pub returns-then-length-gt-MOST_BYTES : goal.returns-then-length-gt-MOST_BYTES
-returns-then-length-gt-MOST_BYTES c =
-    let passes = sym c.valid.ensures ∙ c.if-not-valid.false in
-    let long = c.put_file-length.ensures.next_is in
-    refused_call c.refused-then-length-gt-MOST_BYTES.ensures
-    (case_answer _ _ (is23 passes (omega (arith, c.if-length-gt-MOST_BYTES.true))))
-
 pub returns-then-out-length : goal.returns-then-out-length
 returns-then-out-length c =
     let passes = sym c.valid.ensures ∙ c.if-not-valid.false in
     let long = c.put_file-length.ensures.next_is in
     refused_call c.refused-then-out-length.ensures
-    (case_answer _ _ (is24 passes (omega (arith, c.if-length-gt-MOST_BYTES.false))
-    (omega (arith, c.if-out-length.true))))
+    (case_answer _ _ (is24 passes (omega arith) (omega (arith, c.if-out-length.true))))
 
 pub returns : goal.returns
 returns c =
     let passes = sym c.valid.ensures ∙ c.if-not-valid.false in
     let long = c.put_file-length.ensures.next_is in
-    let few : length (file_text c.args.table) ≤ most_bytes =
-    omega (arith, c.if-length-gt-MOST_BYTES.false) in
+    let few : length (file_text c.args.table) ≤ most_bytes = omega arith in
     let file = puts_written (omega arith) c.put_file-end.ensures in
     written_call file.0 file.1
     (case_answer c.args.table c.args.out.now (is_written passes few
