@@ -1,6 +1,6 @@
 // What is counted, a place for each line that a program prints; and what differs in a table, as a
-// set of bits. The words for lines and bits stand in one text each, and each of them ends with `#`.
-use libc::STDOUT_FILENO;
+// set of bits.
+use std::io;
 use table::Outcome;
 
 // No program prints more lines.
@@ -75,46 +75,30 @@ pub fn reported(changed: bool, differs: u32) -> u32 {
     }
 }
 
-// Prints word n of a text.
-fn print_word(text: &[u8], n: usize) {
-    let mut at: usize = 0;
-    for i in 0..text.len() {
-        let byte = text[i];
-        if byte == b'#' {
-            at = added(at, 1);
-        } else if at == n {
-            let letter = [byte];
-            io::write_all(STDOUT_FILENO, &letter);
-        }
-    }
-}
-
-fn print_line(text: &[u8], n: usize, number: usize) {
-    print_word(text, n);
-    io::print_decimal(STDOUT_FILENO, number as u64);
-    io::write_all(STDOUT_FILENO, b"\n");
-}
-
 // Prints the words for what differs in a table, and the table's number, unless nothing differs.
-pub fn print_difference(text: &[u8], bits: u32, number: usize) {
+pub fn print_difference(
+    rt: &impl Print,
+    words: &[&str],
+    bits: u32,
+    number: usize,
+) -> io::Result<()> {
     if bits == 0 {
-        return;
+        return Ok(());
     }
     let mut left = bits;
-    for n in 0..32 {
+    for word in words {
         if left % 2 == 1 {
-            print_word(text, n);
+            print!(rt; "{word}")?;
         }
-        left = left / 2;
+        left /= 2;
     }
-    print_line(b"differ in table #", 0, number);
+    println!(rt; "differ in table {number}")
 }
 
-// Prints so many lines: the word of each, and its number.
-pub fn print(tally: Tally, text: &[u8], lines: usize) {
-    for n in 0..LINES {
-        if n < lines {
-            print_line(text, n, tally.lines[n]);
-        }
+// Prints a line for each word: the word, and its number.
+pub fn print(rt: &impl Print, tally: Tally, words: &[&str]) -> io::Result<()> {
+    for (word, n) in words.iter().zip(tally.lines.iter()) {
+        println!(rt; "{word}{n}")?;
     }
+    Ok(())
 }
