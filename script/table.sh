@@ -3,21 +3,29 @@
 #   name        its own name, which is also that of the program behind it
 #   text, was   what the program prints, "report", "totals" or "file", and the verb behind it
 # and has a function `usage`, which says how it is called. The program is proved and built first where it is missing or older
-# than its source, which takes some minutes the first time; progress is on standard error.
-program=$root/target/bin/$name
+# than its source, which takes many minutes the first time; progress is on standard error.
+program=$root/crates/$name/out/$name
 
 fail() {
     echo "$name: $*" >&2
     exit 2
 }
 
-# Proves and builds the program; what rt says of it goes to standard error.
+# Proves and builds the program; what rt says of it goes to standard error. `rt run` runs it too, on a file of no bytes.
 build() {
-    echo "$name: the program is proved and built first; from nothing this takes some five minutes" >&2
-    (cd "$root" && rt check "$name" </dev/null 2>&1) | while read -r line; do
-        case $line in rt:*) echo "$name: ${line#rt: }" >&2 ;; esac
-    done && [ -x "$program" ] || fail "the program was not built: run 'rt check $name' to see why"
+    echo "$name: the program is proved and built first, with all that it uses; from nothing this takes many minutes" >&2
+    (cd "$root/crates/$name" && rt run </dev/null 2>&1 >/dev/null) | while read -r line; do
+        case $line in
+        'rt: running '*) ;;
+        rt:*) echo "$name: ${line#rt: }" >&2 ;;
+        esac
+    done && [ -x "$program" ] || fail "the program was not built: run 'rt check' in crates/$name to see why"
     touch "$program"
+}
+
+# Whether a file that a program may be made from is newer than the program.
+is_old() {
+    [ -n "$(find "$root"/crates/*/{src,specs,proofs} "$root/crates.txt" -newer "$program" -print -quit)" ]
 }
 
 # Builds the program where that is needed.
@@ -26,7 +34,7 @@ ready() {
         command -v rt >/dev/null 2>&1 ||
             fail "the Rattle kit is missing: there is no command 'rt' on the PATH. README.md names the kit that is needed."
         build
-    elif [ -n "$(find "$root/crates" "$root/crates.txt" -newer "$program" -print -quit)" ]; then
+    elif is_old; then
         if command -v rt >/dev/null 2>&1; then
             build
         else

@@ -1,5 +1,7 @@
 // Reading a condition. specs/Condition.antt is the grammar and its meaning, specs/Judge.antt says
 // which of 11, 12 and 13 other bytes get; specs/Inner/Reading.antt follows this code.
+#![tactic(auto)]
+
 ghost use Rattle.std.specs.Prelude.{◌≡◌, take, drop};
 ghost use Rattle.letters.specs.Letter.{width};
 ghost use Rattle.table.specs.Name.{name_run};

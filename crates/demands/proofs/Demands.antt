@@ -317,7 +317,7 @@ module _ (table : Table) (buffer : List ℕ) where
   write_17 = Writing.write_17 table buffer
 
   pub write_23 : (write_answer table buffer ≡ unwritten 23 buffer)
-      ↔ ((table_valid table ≡ true) × (4096 < length (file_text table)))
+      ↔ ((table_valid table ≡ true) × (most_bytes < length (file_text table)))
   write_23 = Writing.write_23 table buffer
 
   pub write_24 : (write_answer table buffer ≡ unwritten 24 buffer)

@@ -3,6 +3,7 @@ use Prim.Native.Nat.{ℕ, suc, ◌≤◌}
 use mathlib.Core.List.{List, [], ◌∷◌, ◌++◌}
 use mathlib.Core.Path.{◌≡◌}
 use lib.ListN.{length, take, length-replicate}
+use Rattle.lists.specs.Room.{most_room}
 use Rattle.table.specs.Valid.{rows_of}
 use Rattle.table.specs.declared.Table.{Table}
 use Rattle.traces.specs.Count.{ReachedMany}
@@ -100,8 +101,11 @@ module _ (bytes : List ℕ) (lent : Lent) where
 
 -- "The program lends room 4,096 and a trace buffer of as many bytes": it always shows the trace,
 -- never refused with 21, and its own buffer holds every report.
-pub program_room : (room_of program_lent ≡ 4096) × (length program_lent.trace ≡ 4096)
-program_room = (Laws.program_room, length-replicate {A = ℕ} 4096 0)
+pub program_room : room_of program_lent ≡ most_room
+program_room = Laws.program_room
+
+pub program_trace : length program_lent.trace ≡ 4096
+program_trace = length-replicate {A = ℕ} 4096 0
 
 pub program_shows : (table : Table) (n : ℕ) → Fit table program_lent n → (w : List ℕ) (k : ℕ)
     → Trapped (system_of table) w k → length w ≤ length program_lent.trace

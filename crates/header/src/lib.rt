@@ -1,5 +1,7 @@
 // Reading lines 1 and 2: the version, and the names of the signals. specs/Header.antt says what is
 // right, specs/Inner/Header.antt which of 4 to 8 other bytes get.
+#![tactic(auto)]
+
 ghost use Rattle.std.specs.Prelude.{◌≡◌};
 ghost use Rattle.text.specs.Lines.{space};
 ghost use Rattle.text.specs.Inner.Cut.{split};
@@ -109,6 +111,7 @@ fn with_name(kept: Kept, n: usize, name: Name) -> Kept
 }
 
 // The first n names that were read; or 6, 7 or 8, in this order.
+#[tactic(auto, unfolding(crate::specs::Inner::Gathering::names_answer))]
 fn judge_names(kept: Kept, n: usize) -> Signals
     ensures { result ≡ names_answer kept.names n }
 {

@@ -9,7 +9,7 @@ ghost use Rattle.input.specs.Input.{piece_of, Brought, Reads, Takes, TakesAll, F
 use std::io::Read;
 
 // So much of a table file is read: of one that is too long the first bytes are enough to say so.
-const MOST_READ: usize = 4097;
+pub const MOST_READ: usize = 4097;
 
 // What one call of a reader's `read` brought: so many bytes, the end of the input, or nothing since
 // it failed.

@@ -1,5 +1,7 @@
 // One tick for a caller that has rows and state by value: both are lent to the watcher's `tick`.
 // specs/Answer.antt of crate `pass` says what is right.
+#![tactic(auto)]
+
 ghost use Rattle.std.specs.Prelude.{◌≡◌, ◌+◌, min, take};
 ghost use Rattle.table.specs.Limits.{most_rows};
 ghost use Rattle.pass.specs.Answer.{tick_answer};

@@ -1,5 +1,7 @@
 // The lines that reports share, put into a lent buffer from a place on: each function answers the
 // next place. specs/Line.antt says what is right, for every value and every lent buffer.
+#![tactic(auto)]
+
 ghost use Rattle.std.specs.Prelude.{[], ◌∷◌, ◌++◌, ◌≡◌, length, take};
 ghost use Rattle.text.specs.Bounds.{decimal};
 ghost use Rattle.text.specs.Lines.{LF as lineEnd, ended};

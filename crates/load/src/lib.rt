@@ -3,6 +3,8 @@
 //
 // The load is a number of 32 bits, which changes at each tick and then gives the letter. No list
 // of letters is kept: a run takes the same memory for any number of ticks.
+#![tactic(auto)]
+
 mod tally;
 
 ghost use Rattle.std.specs.Prelude.{cond, ◌≡◌, leb, take};
@@ -53,6 +55,7 @@ pub struct Ran {
 }
 
 // The load's number one tick later.
+#[tactic(auto, unfolding(crate::specs::Load::next_number))]
 pub fn next_number(number: u32) -> u32
     ensures { result ≡ next_number number }
 {
@@ -61,6 +64,7 @@ pub fn next_number(number: u32) -> u32
 
 // The letter that a number gives where there are so many signals. With six or more it is the
 // number's part itself, which is below 64.
+#[tactic(auto, unfolding(crate::specs::Load::letter_of))]
 pub fn letter_of(signals: u8, number: u32) -> u8
     ensures { result ≡ letter_of signals number }
 {

@@ -32,6 +32,7 @@ fn more(count: u16, happened: bool) -> u16
 }
 
 // 1 for a row that is in delay or action, else 0.
+#[tactic(auto, unfolding(step::specs::Events::is_open))]
 fn pending(phase: Phase) -> u16
     ensures { result ≡ bit (is_open phase) }
 {

@@ -4,6 +4,8 @@
 //
 // A tick is one pass: each row is tested for number 17, its phase for number 18, and moved on. The
 // pass is a value, so that rows that are lent and rows of a table value go the same way.
+#![tactic(auto)]
+
 ghost use Rattle.std.specs.Prelude.{◌≡◌, take, drop};
 ghost use Rattle.letters.specs.Lists.{every};
 ghost use Rattle.step.specs.Valid.{is_waiting};
@@ -82,6 +84,7 @@ fn rest_waiting(watch: Watch, n: usize) -> bool
 }
 
 // Before the first of n rows: what the counts and the unused rows say.
+#[tactic(auto, unfolding(crate::specs::Inner::Pass::begun))]
 pub fn begin(signals: u8, n: usize, watch: Watch, letter: u8) -> Pass
     ensures { result ≡ begun signals n watch letter }
 {
@@ -96,6 +99,7 @@ pub fn begin(signals: u8, n: usize, watch: Watch, letter: u8) -> Pass
 }
 
 // Row i is tested and moved on. A row beyond the limit is passed by: `begin` has turned it down.
+#[tactic(auto, unfolding(crate::specs::Inner::Pass::row_taken))]
 pub fn take_row(pass: Pass, i: usize, row: Row) -> Pass
     ensures { result ≡ row_taken pass i row }
 {
@@ -139,6 +143,7 @@ pub fn over(rows: [Row; MOST_ROWS], n: usize, begun: Pass) -> Pass
 }
 
 // After the last row: the first number that fits, or the state moved on.
+#[tactic(auto, unfolding(crate::specs::Inner::Pass::finished, crate::specs::Answer::answered))]
 pub fn finish(pass: Pass, watch: Watch) -> Ticked
     ensures { result ≡ finished pass watch }
 {

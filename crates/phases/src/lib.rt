@@ -1,5 +1,7 @@
 // A phase's code and the phase of a code, and number 18 of a row. Crate `step` has the phases; its
 // specs/Phase.antt, Valid.antt and further/Codes.antt say what is right.
+#![tactic(auto)]
+
 ghost use Rattle.std.specs.Prelude.{◌≡◌};
 ghost use Rattle.step.specs.Phase.{code_of};
 ghost use Rattle.step.specs.Valid.{phase_valid, is_waiting};

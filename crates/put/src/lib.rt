@@ -1,6 +1,8 @@
 // Bytes, words and numbers put into a lent buffer from a place on: each answers the next place.
 // What the buffer has no place for is left out, and still counted, up to the last place that there
 // is: so any place will do. specs/Inner/Puts.antt says what is right.
+#![tactic(auto)]
+
 ghost use Rattle.std.specs.Prelude.{[], ◌∷◌, ◌++◌};
 ghost use Rattle.text.specs.Bounds.{decimal as decimalOf};
 ghost use Rattle.text.specs.Bytes.{bytes};

@@ -1,5 +1,7 @@
 // The report, to the byte, of what is found of a table. specs/Report.antt says what is right, for
 // all that can be found and every lent buffer.
+#![tactic(auto)]
+
 ghost use Rattle.std.specs.Prelude.{◌≡◌, length};
 ghost use Rattle.text.specs.Lines.{ended};
 ghost use Rattle.verdict.specs.Buffer.{written};

@@ -63,6 +63,7 @@ module _ (names : List Name) (n : ℕ) where
       → KindsFrom k kinds → FirstFault names n kinds fields number
       → (number_among (fields_of names n k fields) ≡ number) × (number ≡ 0 → ⊥)
   unfolding fields_of number_among field_of
+  fault_found (end {k}) fault = elim fault [ ]
   fault_found (next e more) (no_condition {xs} {number} h) =
       let some = judge_some names n xs number (right_judge names n xs (NoCondition number) h) in
       (rw (e, right_judge names n xs (NoCondition number) h, ne_eqb number 0 some), some)

@@ -1,5 +1,7 @@
 // Reading one row's line: six conditions and six bounds. specs/Row.antt says what is right, and
 // which of 10 to 15 another line gets.
+#![tactic(auto)]
+
 ghost use Rattle.std.specs.Prelude.{◌≡◌, length, take, drop, ltb, true, ◌≤◌, ◌%◌};
 ghost use Rattle.letters.specs.Lists.{every};
 ghost use Rattle.letters.specs.Letter.{width};

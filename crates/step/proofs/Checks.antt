@@ -1,7 +1,7 @@
 -- The three checks of the step rules, by how the code's shared check ends. Assumes nothing.
 use Prim.Native.Nat.{ℕ, ◌+◌}
 use mathlib.Core.Bool.{Bool, true, false, ◌&&◌, cond}
-use mathlib.Core.Path.{◌≡◌, refl}
+use mathlib.Core.Path.{◌≡◌, refl, ◌∙◌}
 use lib.Dec.{leb, ltb}
 use Rattle.table.specs.Row.{holds, tc, tee, ase, ac, aee}
 use Rattle.table.specs.declared.Row.{Row}
@@ -75,3 +75,24 @@ module _ (row : Row) (letter t : ℕ) where
   trigger_ends_lem lapsed =
       ends (trigger_ends (delay_starts row letter) lapsed)
       (holds row tee letter && leb row.tmin t) (holds row tc letter && ltb t row.tmax) (t + 1)
+
+  -- The same of what a call of the shared check answered, for the tests that it was passed.
+  pub action_checked : (end hold : Bool) (r : Check) → end ≡ holds row aee letter
+      → hold ≡ holds row ac letter → r ≡ check_of end hold row.amin row.amax t
+      → stepped_to (action_check row letter t) (action_events row letter t) ≡ action_ends r
+  action_checked end hold r ends holds is = action_ends_lem ∙ rw (← ends, ← holds, ← is)
+
+  pub delay_checked : (end : Bool) (r : Check) → end ≡ holds row ase letter
+      → r ≡ check_of end true row.lmin row.lmax t
+      → stepped_to (delay_check row letter t) (delay_events row letter t)
+      ≡ delay_ends (action_starts row letter) r
+  delay_checked end r ends is = delay_ends_lem ∙ rw (← ends, ← is)
+
+  pub trigger_checked : (lapsed : Stepped) (end hold : Bool) (r : Check)
+      → end ≡ holds row tee letter → hold ≡ holds row tc letter
+      → r ≡ check_of end hold row.tmin row.tmax t
+      → stepped_to (trigger_check row letter t lapsed.phase)
+      (trigger_events row letter t lapsed.events)
+      ≡ trigger_ends (delay_starts row letter) lapsed r
+  trigger_checked lapsed end hold r ends holds is =
+      trigger_ends_lem lapsed ∙ rw (← ends, ← holds, ← is)

@@ -1,5 +1,7 @@
 // The totals of a run as text, to the byte. specs/Totals.antt says what is right, for every value
 // and every lent buffer.
+#![tactic(auto)]
+
 ghost use Rattle.std.specs.Prelude.{◌+◌, ◌≤◌, [], ◌∷◌, ◌++◌, ◌≡◌, length, take};
 ghost use Rattle.text.specs.Lines.{LF as lineEnd, ended};
 ghost use Rattle.verdict.specs.Buffer.{written};

@@ -1,5 +1,7 @@
 // The watcher: it moves all rows of a table on by one tick, which is one pass over them (crate
 // `pass`, whose specs/Watch.antt and specs/Answer.antt say what is right), and plays a trace.
+#![tactic(auto)]
+
 mod tally;
 
 ghost use Rattle.std.specs.Prelude.{◌≡◌};

@@ -59,3 +59,8 @@ module _ (table : Table) (buffer : List ℕ) where
       go true e (yes long) short = is23 e long
       go true e (no long) (yes short) = is24 e (omega arith) short
       go true e (no long) (no short) = is_written e (omega arith) (omega arith)
+
+  -- The answer 23 by itself, for `write` in src/lib.rt.
+  pub answer23 : table_valid table ≡ true → most_bytes < length text
+      → write_answer table buffer ≡ unwritten 23 buffer
+  answer23 passes long = case_answer (is23 passes long)

@@ -1,5 +1,7 @@
 // A table value as a file of version 0001, in one way, to the byte. specs/File.antt says what is
 // right, for every value and every lent buffer.
+#![tactic(auto)]
+
 ghost use Rattle.std.specs.Prelude.{cond, [], ◌∷◌, ◌++◌, map, ◌≡◌, take};
 ghost use Rattle.letters.specs.Letter.{width, members};
 ghost use Rattle.text.specs.Lines.{LF as lineEnd, ended, joined, space};
@@ -249,6 +251,7 @@ fn refused(number: u8) -> Written
 // Writes a table value as a file of version 0001 from the buffer's front, and answers its length;
 // or 17, 23 or 24, in this order, and the buffer is unchanged. The file is put twice: into no
 // buffer, to know its length, and then into the lent one.
+#[tactic(auto, using(crate::proofs::Answers::answer23))]
 pub fn write(table: Table, out: &mut [u8]) -> Written
     ensures { record {
       outcome = result.outcome;

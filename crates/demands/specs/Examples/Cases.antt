@@ -70,7 +70,7 @@ abbrev without_c : Row
 without_c = timed (a ∷ a ∷ a ∷ not_c ∷ not_c ∷ not_c ∷ []) 0 0 1 1 0 0
 
 abbrev pub report : List Row
-report = P ∷ without_c ∷ []
+report = P ∷ timed (a ∷ a ∷ a ∷ not_c ∷ not_c ∷ not_c ∷ []) 0 0 1 1 0 0 ∷ []
 
 -- "One row `a,a,a,0,0,0,3,0,0,0,0,0`."
 abbrev pub delayed : List Row

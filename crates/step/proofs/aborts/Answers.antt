@@ -1,5 +1,4 @@
 -- `step::aborts` meets its contract: one event. Assumes nothing.
-use borrow.Author.Rules.{rules}
 use Rattle.step.proofs.aborts.Goals as goal
 
 pub returns : goal.returns

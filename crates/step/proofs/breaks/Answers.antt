@@ -1,5 +1,4 @@
 -- `step::breaks` meets its contract: one event. Assumes nothing.
-use borrow.Author.Rules.{rules}
 use Rattle.step.proofs.breaks.Goals as goal
 
 pub returns : goal.returns

@@ -1,5 +1,4 @@
 -- `step::completes` meets its contract: one event. Assumes nothing.
-use borrow.Author.Rules.{rules}
 use Rattle.step.proofs.completes.Goals as goal
 
 pub returns : goal.returns

@@ -1,5 +1,4 @@
 -- `step::delay_start` meets its contract: one event more. Assumes nothing.
-use borrow.Author.Rules.{rules}
 use Rattle.step.proofs.delay_start.Goals as goal
 
 pub returns : goal.returns

@@ -1,5 +1,4 @@
 -- `step::goes_on` meets its contract: no event. Assumes nothing.
-use borrow.Author.Rules.{rules}
 use Rattle.step.proofs.goes_on.Goals as goal
 
 pub returns : goal.returns

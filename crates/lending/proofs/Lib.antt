@@ -1,2 +1,0 @@
--- `Lending` lends what lies in a local, for the proof by hand of `tick_lent`.
-pub mod Lending
