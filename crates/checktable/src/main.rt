@@ -1,25 +1,27 @@
 // checktable: reads a table from standard input and prints its report. All that is said of a table
 // comes from `checker::check_file`; here bytes come in and go out. What fails is said on standard
 // error, and nothing is printed then.
+#![tactic(auto)]
+
 use input::Input;
-use libc::{STDIN_FILENO, STDOUT_FILENO};
+use std::io;
 
 // No report is longer: `most_report` of the crate checker.
 const MOST_REPORT: usize = 70000;
 
-fn print_report(file: &[u8]) {
+fn print_report(rt: &(impl Print + Eprint), file: &[u8]) -> io::Result<()> {
     let mut report = [0u8; MOST_REPORT];
     let length = checker::check_file(file, &mut report);
-    if !io::write_all(STDOUT_FILENO, &report[..length]) {
-        os::fail(b"checktable: the report cannot be written");
+    if let Err(error) = rt.write_all(&report[..length]) {
+        eprintln!(rt; "checktable: the report cannot be written: {error}")?;
     }
+    Ok(())
 }
 
-fn main() {
+fn main(rt: HostRuntime) -> io::Result<()> {
     let mut file = input::buffer();
-    let input = input::read_all(STDIN_FILENO, &mut file);
-    match input {
-        Input::Read(length) => print_report(&file[..length]),
-        Input::Failed => os::fail(b"checktable: standard input cannot be read"),
+    match input::read_all(&mut rt.stdin(), &mut file) {
+        Input::Read(length) => print_report(&rt, &file[..length]),
+        Input::Failed => eprintln!(rt; "checktable: standard input cannot be read"),
     }
 }

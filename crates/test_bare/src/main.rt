@@ -1,8 +1,10 @@
 // Prints the report of the table on standard input, as `checktable` does, but lends no index: each
 // state and each predecessor is looked for among the entries from the first on. The report has to
 // be the same.
+#![tactic(auto)]
+
 use input::Input;
-use libc::{STDIN_FILENO, STDOUT_FILENO};
+use std::io;
 
 // As much scratch, and as long a trace buffer, as the program lends.
 const ROOM: usize = 4096;
@@ -10,7 +12,7 @@ const ROOM: usize = 4096;
 // No report is longer: `most_report` of the crate checker.
 const MOST_REPORT: usize = 70000;
 
-fn print_report(file: &[u8]) {
+fn print_report(rt: &(impl Print + Eprint), file: &[u8]) -> io::Result<()> {
     let mut states = [0u64; ROOM];
     let mut lost = [0u16; ROOM];
     let mut index = [0u16; 0];
@@ -25,18 +27,17 @@ fn print_report(file: &[u8]) {
         &mut report,
     );
     if length <= MOST_REPORT {
-        if io::write_all(STDOUT_FILENO, &report[..length]) {
-            return;
+        if rt.write_all(&report[..length]).is_ok() {
+            return Ok(());
         }
     }
-    os::fail(b"test_bare: the report cannot be written");
+    eprintln!(rt; "test_bare: the report cannot be written")
 }
 
-fn main() {
+fn main(rt: HostRuntime) -> io::Result<()> {
     let mut file = input::buffer();
-    let input = input::read_all(STDIN_FILENO, &mut file);
-    match input {
-        Input::Read(length) => print_report(&file[..length]),
-        Input::Failed => os::fail(b"test_bare: standard input cannot be read"),
+    match input::read_all(&mut rt.stdin(), &mut file) {
+        Input::Read(length) => print_report(&rt, &file[..length]),
+        Input::Failed => eprintln!(rt; "test_bare: standard input cannot be read"),
     }
 }

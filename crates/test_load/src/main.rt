@@ -1,6 +1,8 @@
 // The load of document 02, ask 5: its numbers and letters; runs of small tables, with the totals of
 // each row (realised, completed, breaks, open) and their sums; the refusals; and the text of a run
 // in buffers that are too short and too long for it.
+#![tactic(auto)]
+
 mod rows;
 mod show;
 
@@ -8,7 +10,8 @@ ghost use Rattle.std.specs.Prelude.{◌≤◌};
 
 use load::Totals;
 use rows::{broken_alone, every_tick, first_boards};
-use show::{numbered, print, print_ran, print_sums, spaced};
+use show::{print_ran, print_sums};
+use std::io;
 use table::{MOST_ROWS, Table};
 
 // The least and the largest number that a load can start from.
@@ -22,89 +25,78 @@ const SHOWN: u32 = 5;
 // The text of a run is written to so many bytes or fewer.
 const ROOM: usize = 64;
 
-fn print_numbers(start: u32) {
-    numbered(b"numbers from ", start as u64);
-    print(b":");
+fn print_numbers(rt: &impl Print, start: u32) -> io::Result<()> {
+    print!(rt; "numbers from {start}:")?;
     let mut number = start;
     for _ in 0..SHOWN {
         number = load::next_number(number);
-        spaced(number as u64);
+        print!(rt; " {number}")?;
     }
-    print(b"\n");
+    println!(rt)
 }
 
 // The letters of the first numbers from 1.
-fn print_letters(signals: u8) {
-    numbered(b"letters with signals ", signals as u64);
-    print(b":");
+fn print_letters(rt: &impl Print, signals: u8) -> io::Result<()> {
+    print!(rt; "letters with signals {signals}:")?;
     let mut number: u32 = 1;
     for _ in 0..SHOWN {
         number = load::next_number(number);
-        spaced(load::letter_of(signals, number) as u64);
+        print!(rt; " {}", load::letter_of(signals, number))?;
     }
-    print(b"\n");
+    println!(rt)
 }
 
-fn print_run(name: &[u8], table: Table, start: u32, ticks: u32) {
-    print(name);
-    numbered(b" from ", start as u64);
-    numbered(b", ticks ", ticks as u64);
-    print(b"\n");
-    print_ran(load::run(table, start, ticks), table.count);
+fn print_run(rt: &impl Print, name: &str, table: Table, start: u32, ticks: u32) -> io::Result<()> {
+    println!(rt; "{name} from {start}, ticks {ticks}")?;
+    print_ran(rt, load::run(table, start, ticks), table.count)
 }
 
-fn numbers_and_letters() {
-    print_numbers(1);
-    print_numbers(LEAST);
-    print_numbers(LARGEST);
-    print_letters(6);
-    print_letters(2);
-    print_letters(1);
-    print_letters(0);
-    print_letters(7);
-    print_letters(255);
+fn numbers_and_letters(rt: &impl Print) -> io::Result<()> {
+    for start in [1, LEAST, LARGEST] {
+        print_numbers(rt, start)?;
+    }
+    for signals in [6, 2, 1, 0, 7, 255] {
+        print_letters(rt, signals)?;
+    }
+    Ok(())
 }
 
 // Runs that are taken.
-fn runs() {
+fn runs(rt: &impl Print) -> io::Result<()> {
     let boards = first_boards();
-    let name: &[u8] = b"P, Q and S";
-    print_run(name, boards, 1, 0);
-    print_run(name, boards, 1, 1);
-    print_run(name, boards, 1, 6);
+    for ticks in [0, 1, 6] {
+        print_run(rt, "P, Q and S", boards, 1, ticks)?;
+    }
     let apart = broken_alone();
-    let other: &[u8] = b"one row breaks";
-    print_run(other, apart, 1, 1000);
-    print_run(other, apart, LEAST, 1000);
-    print_run(other, apart, LARGEST, 1000);
+    for start in [1, LEAST, LARGEST] {
+        print_run(rt, "one row breaks", apart, start, 1000)?;
+    }
+    Ok(())
 }
 
 // The most ticks, and more; and a table with nine rows, which comes first.
-fn most_ticks() {
+fn most_ticks(rt: &impl Print) -> io::Result<()> {
     let eight = every_tick(8);
-    let name: &[u8] = b"eight rows";
-    print_run(name, eight, 1, 0);
-    print_run(name, eight, 1, 1);
-    print_run(name, eight, 1, 65535);
-    print_run(name, eight, 1, 65536);
-    print_run(name, eight, 1, LARGEST);
+    for ticks in [0, 1, 65535, 65536, LARGEST] {
+        print_run(rt, "eight rows", eight, 1, ticks)?;
+    }
     let nine = every_tick(9);
-    let other: &[u8] = b"nine rows";
-    print_run(other, nine, 1, 1);
-    print_run(other, nine, 1, 65536);
+    for ticks in [1, 65536] {
+        print_run(rt, "nine rows", nine, 1, ticks)?;
+    }
+    Ok(())
 }
 
 // The sums of the first `count` rows, where every total is the largest.
-fn largest_sums(count: u8) {
+fn largest_sums(rt: &impl Print, count: u8) -> io::Result<()> {
     let most = Totals {
         realised: 65535,
         completed: 65535,
         breaks: 65535,
         pending: 65535,
     };
-    numbered(b"largest totals, rows ", count as u64);
-    print(b"\n");
-    print_sums(load::sum([most; MOST_ROWS], count));
+    println!(rt; "largest totals, rows {count}")?;
+    print_sums(rt, load::sum([most; MOST_ROWS], count))
 }
 
 // A text and its length. What it has no place for is not in it.
@@ -124,40 +116,31 @@ fn text_of(table: Table, ticks: u32, lent: usize) -> Text
     Text { length, bytes }
 }
 
-fn print_bytes(bytes: &[u8; ROOM]) {
-    print(bytes);
-}
-
-fn print_text(name: &[u8], table: Table, ticks: u32, lent: usize)
+fn print_text(rt: &impl Print, name: &str, table: Table, ticks: u32, lent: usize) -> io::Result<()>
     requires { lent ≤ 64 }
 {
-    let text = text_of(table, ticks, lent);
-    let bytes = text.bytes;
-    print(name);
-    numbered(b", text in ", lent as u64);
-    numbered(b" of 64 bytes, its length ", text.length as u64);
-    print(b"\n");
-    print_bytes(&bytes);
-    print(b"\n");
+    let Text { length, bytes } = text_of(table, ticks, lent);
+    println!(rt; "{name}, text in {lent} of 64 bytes, its length {length}")?;
+    rt.write_all(&bytes)?;
+    println!(rt)
 }
 
-fn texts() {
+fn texts(rt: &impl Print) -> io::Result<()> {
     let boards = first_boards();
-    let name: &[u8] = b"P, Q and S";
-    print_text(name, boards, 6, 64);
-    print_text(name, boards, 6, 56);
-    print_text(name, boards, 6, 50);
-    print_text(name, boards, 6, 0);
-    print_text(b"too many ticks", boards, 65536, 64);
+    let name = "P, Q and S";
+    print_text(rt, name, boards, 6, 64)?;
+    print_text(rt, name, boards, 6, 56)?;
+    print_text(rt, name, boards, 6, 50)?;
+    print_text(rt, name, boards, 6, 0)?;
+    print_text(rt, "too many ticks", boards, 65536, 64)
 }
 
-fn main() {
-    numbers_and_letters();
-    runs();
-    most_ticks();
-    largest_sums(8);
-    largest_sums(3);
-    largest_sums(0);
-    largest_sums(255);
-    texts();
+fn main(rt: HostRuntime) -> io::Result<()> {
+    numbers_and_letters(&rt)?;
+    runs(&rt)?;
+    most_ticks(&rt)?;
+    for count in [8, 3, 0, 255] {
+        largest_sums(&rt, count)?;
+    }
+    texts(&rt)
 }

@@ -1,5 +1,7 @@
 // Searches random tables and compares the answer, and every place of the lent lists, with those of
 // the second search. Prints how many tables agreed, and what kinds of answers there were.
+#![tactic(auto)]
+
 mod compare;
 mod expected;
 mod lent;
@@ -12,6 +14,7 @@ use lent::{Held, Lengths, any_lengths, before_search, capped, capped_index};
 use random::tables::{Case, TABLES, any_case};
 use random::tally::{Tally, none, reported};
 use second::{ALL_PARTS, Solved, solve};
+use std::io;
 use strike::{any_strike, is_struck, struck, struck_answer};
 use table::Table;
 use tally::{counted, noted, print_all};
@@ -53,7 +56,13 @@ fn search_lent(seed: u64, table: Table, lengths: Lengths) -> Searched {
 
 // Searches the table that is given with lent lists of some lengths, compares, and counts it. In
 // one table of twenty a place is changed first.
-fn attempt(case: Case, solved: Solved, answer: &[u64; ALL_PARTS], tally: Tally) -> Tally {
+fn attempt(
+    rt: &impl Print,
+    case: Case,
+    solved: Solved,
+    answer: &[u64; ALL_PARTS],
+    tally: Tally,
+) -> io::Result<Tally> {
     let seed = case.seed;
     let table = case.given;
     let lengths = any_lengths(seed ^ 4, seed ^ 9, solved);
@@ -66,21 +75,22 @@ fn attempt(case: Case, solved: Solved, answer: &[u64; ALL_PARTS], tally: Tally) 
     let differs = lists | compare_answers(struck_answer(found, strike), right);
     let changed = is_struck(strike);
     let next = noted(tally, changed, differs, lengths);
-    counted(next, right, table.count, reported(changed, differs), solved)
+    let reported = reported(changed, differs);
+    counted(rt, next, right, table.count, reported, solved)
 }
 
 // Makes a table, solves it by the second search, and tries the first on it.
-fn run(number: u64, tally: Tally) -> Tally {
+fn run(rt: &impl Print, number: u64, tally: Tally) -> io::Result<Tally> {
     let case = any_case(number);
     let mut answer = [0u64; ALL_PARTS];
     let solved = solve(case.table, &mut answer);
-    attempt(case, solved, &answer, tally)
+    attempt(rt, case, solved, &answer, tally)
 }
 
-fn main() {
+fn main(rt: HostRuntime) -> io::Result<()> {
     let mut tally = none();
     for number in 0..TABLES {
-        tally = run(number, tally);
+        tally = run(&rt, number, tally)?;
     }
-    print_all(tally);
+    print_all(&rt, tally)
 }

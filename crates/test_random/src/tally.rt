@@ -4,6 +4,7 @@ use crate::lent::{Lengths, room};
 use random::tally::{Tally, largest, more, one_more_if, print, print_difference, unless};
 use second::Solved;
 use second::kinds::Kinds;
+use std::io;
 
 // The lines by their places.
 const TABLES: usize = 0;
@@ -62,8 +63,6 @@ const LONGEST_FALL: usize = 26;
 
 const AGAIN: usize = 27;
 
-const ALL_LINES: usize = 28;
-
 // A walk that falls back through so many doomed states in a row is counted.
 const FALL: usize = 5;
 
@@ -115,38 +114,72 @@ fn with_verdict(tally: Tally, right: Expected, rows: u8) -> Tally {
 }
 
 // The tally with one table more, of which `differs` says what differs.
-pub fn counted(tally: Tally, right: Expected, rows: u8, differs: u32, solved: Solved) -> Tally {
+pub fn counted(
+    rt: &impl Print,
+    tally: Tally,
+    right: Expected,
+    rows: u8,
+    differs: u32,
+    solved: Solved,
+) -> io::Result<Tally> {
     let kinds = solved.kinds;
     let second = unless(solved.back, 11) | unless(kinds.same, 12);
-    let words: &[u8] = b"a changed place #refusal #verdict #trace length #lost number #count #\
-        rows that never fire #states #lost numbers #index #trace #the way back #\
-        the walk's lost numbers #";
-    print_difference(words, differs | second, tally.lines[TABLES]);
+    let words = [
+        "a changed place ",
+        "refusal ",
+        "verdict ",
+        "trace length ",
+        "lost number ",
+        "count ",
+        "rows that never fire ",
+        "states ",
+        "lost numbers ",
+        "index ",
+        "trace ",
+        "the way back ",
+        "the walk's lost numbers ",
+    ];
+    print_difference(rt, &words, differs | second, tally.lines[TABLES])?;
     let mut t = one_more_if(tally, TABLES, true);
     t = one_more_if(t, AGREED, differs == 0);
     t = with_refusal(t, right.number);
     t = with_verdict(t, right, rows);
     if 0 < right.used {
-        with_walk(t, kinds, solved.again)
-    } else {
-        t
+        t = with_walk(t, kinds, solved.again);
     }
+    Ok(t)
 }
 
-pub fn print_all(tally: Tally) {
-    let text: &[u8] =
-        b"tables #agreed #  with a place changed after the search #  of these noticed #  \
-        with an empty index #  with an index longer than the room #\
-        sound #  with several rows and over 3 states #\
-        trapped #  with an empty trace #  with a trace over 3 letters #  \
-        with a lost number over 3 #\
-        refused 17: #refused 20: #refused 21: #\
-        longest trace #largest lost number #most states #\
-        verdicts without a row that never fires #\
-        rows that never fire, though a broken trace realises them #\
-        walks along paths #  with the same lost numbers #  \
-        with a path that closes on itself #  with one that closes before its end #  \
-        with a path into the living #  with a fall back through 5 doomed states or more #\
-        longest fall back #tables with a trigger that starts again as it aborts, and goes on #";
-    print(tally, text, ALL_LINES);
+pub fn print_all(rt: &impl Print, tally: Tally) -> io::Result<()> {
+    let words = [
+        "tables ",
+        "agreed ",
+        "  with a place changed after the search ",
+        "  of these noticed ",
+        "  with an empty index ",
+        "  with an index longer than the room ",
+        "sound ",
+        "  with several rows and over 3 states ",
+        "trapped ",
+        "  with an empty trace ",
+        "  with a trace over 3 letters ",
+        "  with a lost number over 3 ",
+        "refused 17: ",
+        "refused 20: ",
+        "refused 21: ",
+        "longest trace ",
+        "largest lost number ",
+        "most states ",
+        "verdicts without a row that never fires ",
+        "rows that never fire, though a broken trace realises them ",
+        "walks along paths ",
+        "  with the same lost numbers ",
+        "  with a path that closes on itself ",
+        "  with one that closes before its end ",
+        "  with a path into the living ",
+        "  with a fall back through 5 doomed states or more ",
+        "longest fall back ",
+        "tables with a trigger that starts again as it aborts, and goes on ",
+    ];
+    print(rt, tally, &words)
 }

@@ -1,5 +1,7 @@
 // Runs random tables under random loads, and compares the refusal and all totals of each run with a
 // second reading of the paper (loads.rt). Prints how many tables agreed.
+#![tactic(auto)]
+
 mod loads;
 
 use load::Totals;
@@ -11,6 +13,7 @@ use random::tables::{TABLES, any_case};
 use random::tally::{
     Tally, more, none, one_more_if, print, print_difference, reported, same_number, unless,
 };
+use std::io;
 use table::MOST_ROWS;
 
 // The lines by their places: runs, and those of them that agreed; how often a total was changed, and
@@ -30,8 +33,6 @@ const LONGEST: usize = 5;
 
 const REALISED: usize = 6;
 
-const ALL_LINES: usize = 7;
-
 // With the triggers that the rows realised.
 fn with_realised(tally: Tally, totals: [Totals; MOST_ROWS]) -> Tally {
     let mut next = tally;
@@ -44,7 +45,7 @@ fn with_realised(tally: Tally, totals: [Totals; MOST_ROWS]) -> Tally {
 
 // Runs a table for some ticks from some number, compares, and counts it. In one table of twenty a
 // total in the answer is changed first.
-fn run(number: u64, tally: Tally) -> Tally {
+fn run(rt: &impl Print, number: u64, tally: Tally) -> io::Result<Tally> {
     let case = any_case(number);
     let own = mixed(case.seed ^ 7);
     let start = any_start(own ^ 1);
@@ -57,26 +58,30 @@ fn run(number: u64, tally: Tally) -> Tally {
     let totals = ran.totals;
     let same = same_totals(strike_totals(own ^ 4, totals, changed), right);
     let differs = unless(same_number(outcome, refusal), 1) | reported(changed, unless(same, 2));
-    print_difference(
-        b"a changed total #refusal #totals #",
-        differs,
-        tally.lines[RUNS],
-    );
+    let words = ["a changed total ", "refusal ", "totals "];
+    print_difference(rt, &words, differs, tally.lines[RUNS])?;
     let mut next = one_more_if(tally, RUNS, true);
     next = one_more_if(next, AGREED, differs == 0);
     next = one_more_if(next, CHANGED, changed);
     next = one_more_if(next, NOTICED, changed & !same);
     next = one_more_if(next, REFUSED, refusal != 0);
     next = one_more_if(next, LONGEST, (refusal == 0) & (ticks == MOST_TICKS));
-    with_realised(next, right)
+    Ok(with_realised(next, right))
 }
 
-fn main() {
+fn main(rt: HostRuntime) -> io::Result<()> {
     let mut tally = none();
     for number in 0..TABLES {
-        tally = run(number, tally);
+        tally = run(&rt, number, tally)?;
     }
-    let text: &[u8] = b"runs of a load #agreed #  with a total changed #  of these noticed #\
-        refused #of 65535 ticks #triggers realised in them #";
-    print(tally, text, ALL_LINES);
+    let words = [
+        "runs of a load ",
+        "agreed ",
+        "  with a total changed ",
+        "  of these noticed ",
+        "refused ",
+        "of 65535 ticks ",
+        "triggers realised in them ",
+    ];
+    print(&rt, tally, &words)
 }

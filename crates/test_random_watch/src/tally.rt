@@ -2,6 +2,7 @@
 // a trigger aborted and started again.
 use random::rules::{ABORTED, STARTED};
 use random::tally::{Tally, one_more_if, print, print_difference};
+use std::io;
 
 // The lines by their places: tables, those of them in which all agreed; ticks, those of them that
 // were refused; how often an event or a count was changed, and how often this was noticed; each
@@ -24,8 +25,6 @@ const EVENTS: usize = 6;
 const AGAIN: usize = 12;
 
 const GOING_ON: usize = 13;
-
-const ALL_LINES: usize = 14;
 
 // The number of events; each has the place of its bit.
 pub const KINDS: usize = 6;
@@ -67,17 +66,35 @@ pub fn with_again(tally: Tally, before: u8, number: u8, after: u8) -> Tally {
 }
 
 // With a table more, of which `differs` says what differs.
-pub fn counted(tally: Tally, differs: u32) -> Tally {
-    let words: &[u8] = b"a changed place #refusal #phases #events #event counts #";
-    print_difference(words, differs, tally.lines[TABLES]);
-    one_more_if(one_more_if(tally, TABLES, true), AGREED, differs == 0)
+pub fn counted(rt: &impl Print, tally: Tally, differs: u32) -> io::Result<Tally> {
+    let words = [
+        "a changed place ",
+        "refusal ",
+        "phases ",
+        "events ",
+        "event counts ",
+    ];
+    print_difference(rt, &words, differs, tally.lines[TABLES])?;
+    let next = one_more_if(tally, TABLES, true);
+    Ok(one_more_if(next, AGREED, differs == 0))
 }
 
-pub fn print_all(tally: Tally) {
-    let text: &[u8] = b"tables #agreed #\
-        ticks #  refused #  with an event or a count changed #  of these noticed #\
-        triggers started #triggers realised #triggers aborted #\
-        actions started #actions completed #rows broken #\
-        triggers started again as they abort #  of these going on #";
-    print(tally, text, ALL_LINES);
+pub fn print_all(rt: &impl Print, tally: Tally) -> io::Result<()> {
+    let words = [
+        "tables ",
+        "agreed ",
+        "ticks ",
+        "  refused ",
+        "  with an event or a count changed ",
+        "  of these noticed ",
+        "triggers started ",
+        "triggers realised ",
+        "triggers aborted ",
+        "actions started ",
+        "actions completed ",
+        "rows broken ",
+        "triggers started again as they abort ",
+        "  of these going on ",
+    ];
+    print(rt, tally, &words)
 }

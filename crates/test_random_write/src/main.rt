@@ -1,5 +1,7 @@
 // Writes random tables, and compares the answer, and every byte of the lent buffer, with what a
 // second writer gives (backward.rt). Prints how many tables agreed, and what became of them.
+#![tactic(auto)]
+
 mod backward;
 mod compare;
 mod names;
@@ -14,6 +16,7 @@ use random::numbers::{below, byte_below, mixed, one_in};
 use random::spoil::spoil;
 use random::tables::{TABLES, any_case, wide_table};
 use random::tally::{Tally, none, reported};
+use std::io;
 use table::{MOST_BYTES, Outcome, Table};
 use tally::{counted, noted, print_all};
 
@@ -79,7 +82,13 @@ fn strike(bytes: [u8; LONGEST], at: usize, struck: bool) -> [u8; LONGEST] {
 }
 
 // Writes a table, compares, and counts it. In one table of twenty a byte is changed first.
-fn attempt(seed: u64, table: Table, valid: bool, tally: Tally) -> Tally {
+fn attempt(
+    rt: &impl Print,
+    seed: u64,
+    table: Table,
+    valid: bool,
+    tally: Tally,
+) -> io::Result<Tally> {
     let own = mixed(seed);
     let mut file = [0u8; MOST_BYTES];
     let length = put_file(&mut file, table);
@@ -94,32 +103,32 @@ fn attempt(seed: u64, table: Table, valid: bool, tally: Tally) -> Tally {
     let differs = compare_answers(outcome, call.length, right)
         | compare_bytes(given, before, file, right.length);
     let next = noted(tally, changed, differs != 0);
-    counted(next, right, lent, reported(changed, differs))
+    counted(rt, next, right, lent, reported(changed, differs))
 }
 
 // Writes a table as it is, or with longer names, or one with more signals, or now and then the
 // table with a fault.
-fn run(number: u64, tally: Tally) -> Tally {
+fn run(rt: &impl Print, number: u64, tally: Tally) -> io::Result<Tally> {
     let case = any_case(number);
     let own = mixed(case.seed ^ 8);
     if one_in(own ^ 1, 40) {
-        return attempt(own ^ 2, spoil(own ^ 3, case.table), false, tally);
+        return attempt(rt, own ^ 2, spoil(own ^ 3, case.table), false, tally);
     }
     if one_in(own ^ 4, 3) {
-        return attempt(own ^ 2, case.table, true, tally);
+        return attempt(rt, own ^ 2, case.table, true, tally);
     }
     let given = if one_in(own ^ 5, 2) {
         case.table
     } else {
         wide_table(own ^ 6)
     };
-    attempt(own ^ 2, renamed(own ^ 7, given), true, tally)
+    attempt(rt, own ^ 2, renamed(own ^ 7, given), true, tally)
 }
 
-fn main() {
+fn main(rt: HostRuntime) -> io::Result<()> {
     let mut tally = none();
     for number in 0..TABLES {
-        tally = run(number, tally);
+        tally = run(&rt, number, tally)?;
     }
-    print_all(tally);
+    print_all(&rt, tally)
 }

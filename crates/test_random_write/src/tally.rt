@@ -1,6 +1,7 @@
 // How many tables were written, and how many refused by which number.
 use crate::compare::Expected;
 use random::tally::{Tally, largest, one_more_if, print, print_difference};
+use std::io;
 
 // The lines by their places.
 const TABLES: usize = 0;
@@ -23,8 +24,6 @@ const REFUSED_24: usize = 8;
 
 const LONGEST: usize = 9;
 
-const ALL_LINES: usize = 10;
-
 // The tally with a byte that was changed, if it was, and whether the comparison noticed it.
 pub fn noted(tally: Tally, changed: bool, noticed: bool) -> Tally {
     one_more_if(
@@ -36,9 +35,15 @@ pub fn noted(tally: Tally, changed: bool, noticed: bool) -> Tally {
 
 // The tally with one table more, for which so many bytes were lent, and of which `differs` says
 // what differs.
-pub fn counted(tally: Tally, right: Expected, lent: usize, differs: u32) -> Tally {
-    let words: &[u8] = b"a changed byte #refusal #length #bytes #";
-    print_difference(words, differs, tally.lines[TABLES]);
+pub fn counted(
+    rt: &impl Print,
+    tally: Tally,
+    right: Expected,
+    lent: usize,
+    differs: u32,
+) -> io::Result<Tally> {
+    let words = ["a changed byte ", "refusal ", "length ", "bytes "];
+    print_difference(rt, &words, differs, tally.lines[TABLES])?;
     let written = right.number == 0;
     let mut t = one_more_if(tally, TABLES, true);
     t = one_more_if(t, AGREED, differs == 0);
@@ -47,13 +52,21 @@ pub fn counted(tally: Tally, right: Expected, lent: usize, differs: u32) -> Tall
     t = one_more_if(t, REFUSED_17, right.number == 17);
     t = one_more_if(t, REFUSED_23, right.number == 23);
     t = one_more_if(t, REFUSED_24, right.number == 24);
-    largest(t, LONGEST, right.length)
+    Ok(largest(t, LONGEST, right.length))
 }
 
-pub fn print_all(tally: Tally) {
-    let text: &[u8] = b"tables to be written #agreed #  with a byte changed after the call #  \
-        of these noticed #\
-        written #  in a buffer just as long as the file #\
-        refused 17: #refused 23: #refused 24: #longest file #";
-    print(tally, text, ALL_LINES);
+pub fn print_all(rt: &impl Print, tally: Tally) -> io::Result<()> {
+    let words = [
+        "tables to be written ",
+        "agreed ",
+        "  with a byte changed after the call ",
+        "  of these noticed ",
+        "written ",
+        "  in a buffer just as long as the file ",
+        "refused 17: ",
+        "refused 23: ",
+        "refused 24: ",
+        "longest file ",
+    ];
+    print(rt, tally, &words)
 }

@@ -1,147 +1,86 @@
 // Reads each file that its arguments name and prints what the reader makes of it: the refusal, or
 // the table.
-use libc::STDOUT_FILENO;
-use table::{CONDITIONS, MOST_ROWS, MOST_SIGNALS, Name, Outcome, Row, Table};
+#![tactic(auto)]
 
-fn print(word: &[u8]) {
-    io::write_all(STDOUT_FILENO, word);
-}
-
-fn print_number(before: &[u8], n: u64) {
-    io::write_all(STDOUT_FILENO, before);
-    io::print_decimal(STDOUT_FILENO, n);
-}
-
-fn print_byte(before: &[u8], n: u8) {
-    print_number(before, n as u64);
-}
+use std::rt::Files;
+use std::{env, fs, io};
+use table::{Name, Outcome, Refusal, Row, Table};
 
 // The letters up to a 0.
-fn print_chars(chars: &[u8]) {
-    let n = text::find(chars, 0);
-    if n <= chars.len() {
-        print(&chars[..n]);
-    }
-}
-
-fn print_name(name: Name) {
-    let chars = name.chars;
-    print(b" ");
-    print_chars(&chars);
-}
-
-fn print_names(names: [Name; MOST_SIGNALS], count: u8) {
-    let mut k: u8 = 0;
-    while k < count {
-        let i = k as usize;
-        if i < MOST_SIGNALS {
-            print_name(names[i]);
-        }
-        k += 1;
-    }
-}
-
-// A word, and six numbers after it.
-fn print_numbers(word: &[u8], numbers: [u64; CONDITIONS]) {
-    print(word);
-    for i in 0..CONDITIONS {
-        print_number(b" ", numbers[i]);
-    }
+fn print_name(rt: &impl Print, name: Name) -> io::Result<()> {
+    print!(rt; " ")?;
+    let n = text::find(&name.chars, 0);
+    rt.write_all(&name.chars[..n])
 }
 
 // `  sets 10 10 10 12 12 12 ticks 0 0 1 1 0 0`.
-fn print_row(row: Row) {
-    let ticks = [
-        row.tmin as u64,
-        row.tmax as u64,
-        row.lmin as u64,
-        row.lmax as u64,
-        row.amin as u64,
-        row.amax as u64,
-    ];
-    let sets = row.sets;
-    print_numbers(b"  sets", sets);
-    print_numbers(b" ticks", ticks);
-    print(b"\n");
-}
-
-fn print_rows(rows: [Row; MOST_ROWS], count: u8) {
-    let mut k: u8 = 0;
-    while k < count {
-        let i = k as usize;
-        if i < MOST_ROWS {
-            print_row(rows[i]);
-        }
-        k += 1;
+fn print_row(rt: &impl Print, row: Row) -> io::Result<()> {
+    print!(rt; "  sets")?;
+    for set in row.sets {
+        print!(rt; " {set}")?;
     }
+    print!(rt; " ticks")?;
+    for bound in [row.tmin, row.tmax, row.lmin, row.lmax, row.amin, row.amax] {
+        print!(rt; " {bound}")?;
+    }
+    println!(rt)
 }
 
-fn print_table(table: Table) {
-    let names = table.names;
-    print_byte(b"signals ", table.signals);
-    print_names(names, table.signals);
-    print_byte(b" rows ", table.count);
-    if table::valid(table) {
-        print(b" valid\n");
+fn print_table(rt: &impl Print, table: Table) -> io::Result<()> {
+    let Table {
+        signals,
+        names,
+        count,
+        rows,
+    } = table;
+    print!(rt; "signals {signals}")?;
+    for name in names.into_iter().take(signals as usize) {
+        print_name(rt, name)?;
+    }
+    let valid = if table::valid(table) {
+        "valid"
     } else {
-        print(b" not valid\n");
+        "not valid"
+    };
+    println!(rt; " rows {count} {valid}")?;
+    for row in rows.into_iter().take(count as usize) {
+        print_row(rt, row)?;
     }
-    let rows = table.rows;
-    print_rows(rows, table.count);
+    Ok(())
 }
 
 // Whether everything in a table is 0, the places that are not used included.
-fn print_emptiness(table: Table) {
-    let names = table.names;
-    let rows = table.rows;
+fn is_empty(table: Table) -> bool {
     let none = (table.signals == 0) & (table.count == 0);
-    if none & table::names::rest_unused(names, 0) & table::rows::rest_unused(rows, 0) {
-        print(b" table empty\n");
-    } else {
-        print(b" table not empty\n");
-    }
+    none & table::names::rest_unused(table.names, 0) & table::rows::rest_unused(table.rows, 0)
 }
 
-fn show(bytes: &[u8]) {
+fn show(rt: &impl Print, bytes: &[u8]) -> io::Result<()> {
     let read = reader::read(bytes);
-    let outcome = read.outcome;
-    match outcome {
-        Outcome::Accepted => {
-            let table = read.table;
-            print_table(table);
-        }
-        Outcome::Refused(refusal) => {
-            let table = read.table;
-            print_byte(b"refused ", refusal.number);
-            print_byte(b" line ", refusal.line);
-            print_emptiness(table);
+    match read.outcome {
+        Outcome::Accepted => print_table(rt, read.table),
+        Outcome::Refused(Refusal { number, line }) => {
+            let empty = if is_empty(read.table) {
+                "empty"
+            } else {
+                "not empty"
+            };
+            println!(rt; "refused {number} line {line} table {empty}")
         }
     }
 }
 
-// Argument i, counted from 1: the name of a file.
-fn show_file(i: usize) {
-    let mut path = io::buffer();
-    let length = os::arg(i, &mut path);
-    let name: &[u8] = &path[..length];
-    print(name);
-    print(b": ");
-    let fd = os::open_read(name);
-    if fd < 0 {
-        print(b"no such file\n");
-        return;
+fn show_file(rt: &(impl Print + Files + Alloc), name: &str) -> io::Result<()> {
+    print!(rt; "{name}: ")?;
+    match fs::read(rt, name) {
+        Ok(bytes) => show(rt, &bytes),
+        Err(_) => println!(rt; "no such file"),
     }
-    let mut buffer = [0u8; 5000];
-    let n = io::read_full(fd, &mut buffer);
-    libc::close(fd);
-    show(&buffer[..n]);
 }
 
-fn main() {
-    let n = os::arg_count();
-    let mut i: usize = 1;
-    while i < n {
-        show_file(i);
-        i += 1;
+fn main(rt: HostRuntime) -> io::Result<()> {
+    for name in env::args(&rt)?.skip(1) {
+        show_file(&rt, name.as_str())?;
     }
+    Ok(())
 }

@@ -2,78 +2,61 @@
 // written file that are stored beside it. Of each table it says whether the checker makes these of
 // it, and if not, what it makes. The last three are spoilt on purpose, so that one sees that a
 // difference is noticed.
-ghost use Rattle.io.specs.Counts.{IsPrefixLen};
+#![tactic(auto)]
 
-use libc::STDOUT_FILENO;
+use std::rt::{Files, Runtime};
+use std::{env, fs, io};
 
+// No report and no totals are longer.
 const MOST_READ: usize = 5000;
 
 // No written file is longer.
 const MOST_BYTES: usize = 4096;
 
-fn print(word: &[u8]) {
-    io::write_all(STDOUT_FILENO, word);
+// The bytes of a file; none if it cannot be read.
+fn read_file<R: Files + Alloc>(rt: &R, name: &str) -> Vec<u8, R::A> {
+    fs::read(rt, name).unwrap_or(Vec::new(rt.alloc()))
 }
 
-// Reads the file that argument i names: how many bytes it has, and 0 if it cannot be read.
-fn read_file(i: usize, file: &mut [u8]) -> usize
-    ensures { IsPrefixLen result file.new }
-{
-    let mut path = io::buffer();
-    let length = os::arg(i, &mut path);
-    let fd = os::open_read(&path[..length]);
-    if fd < 0 {
-        return 0;
-    }
-    let n = io::read_full(fd, file);
-    libc::close(fd);
-    n
-}
-
-fn print_name(i: usize) {
-    let mut path = io::buffer();
-    let length = os::arg(i, &mut path);
-    print(&path[..length]);
-}
-
-fn same(made: &[u8], stored: &[u8]) -> bool {
-    (made.len() == stored.len()) & text::starts_with(made, stored)
-}
-
-// The first word if a text is the one stored, and else the other.
-fn say(made: &[u8], stored: &[u8], word: &[u8], other: &[u8]) {
-    if same(made, stored) {
-        print(word);
-    } else {
-        print(other);
-    }
+// Prints the first word if a text is the one stored, and else the other.
+fn say(rt: &impl Print, made: &[u8], stored: &[u8], word: &str, other: &str) -> io::Result<()> {
+    let said = if made == stored { word } else { other };
+    print!(rt; "{said}")
 }
 
 // Prints a text that is not the one stored.
-fn print_other(made: &[u8], stored: &[u8]) {
-    if !same(made, stored) {
-        print(made);
+fn print_other(rt: &impl Print, made: &[u8], stored: &[u8]) -> io::Result<()> {
+    if made != stored {
+        rt.write_all(made)?;
     }
+    Ok(())
 }
 
 // Says whether a report, totals and a file are those stored behind them, and prints what is not.
 fn compare(
+    rt: &impl Print,
     report: &[u8],
     its_report: &[u8],
     totals: &[u8],
     its_totals: &[u8],
     written: &[u8],
     its_file: &[u8],
-) {
-    say(report, its_report, b": its report", b": another report");
-    say(totals, its_totals, b", its totals", b", other totals");
-    say(written, its_file, b", its file\n", b", another file\n");
-    print_other(report, its_report);
-    print_other(totals, its_totals);
-    print_other(written, its_file);
+) -> io::Result<()> {
+    say(rt, report, its_report, ": its report", ": another report")?;
+    say(rt, totals, its_totals, ", its totals", ", other totals")?;
+    say(rt, written, its_file, ", its file\n", ", another file\n")?;
+    print_other(rt, report, its_report)?;
+    print_other(rt, totals, its_totals)?;
+    print_other(rt, written, its_file)
 }
 
-fn check_table(file: &[u8], its_report: &[u8], its_totals: &[u8], its_file: &[u8]) {
+fn check_table(
+    rt: &impl Print,
+    file: &[u8],
+    its_report: &[u8],
+    its_totals: &[u8],
+    its_file: &[u8],
+) -> io::Result<()> {
     let mut report = [0u8; MOST_READ];
     let mut totals = [0u8; MOST_READ];
     let mut written = [0u8; MOST_BYTES];
@@ -81,45 +64,46 @@ fn check_table(file: &[u8], its_report: &[u8], its_totals: &[u8], its_file: &[u8
     let end = checker::load_file(file, &mut totals);
     let size = checker::write_file(file, &mut written);
     if MOST_READ < length {
-        print(b": a longer report\n");
+        println!(rt; ": a longer report")
     } else if MOST_READ < end {
-        print(b": longer totals\n");
+        println!(rt; ": longer totals")
     } else if MOST_BYTES < size {
-        print(b": a longer file\n");
+        println!(rt; ": a longer file")
     } else {
         compare(
+            rt,
             &report[..length],
             its_report,
             &totals[..end],
             its_totals,
             &written[..size],
             its_file,
-        );
+        )
     }
 }
 
-// The arguments by number: a table, its report, its totals and its written file.
-fn check_files(table: usize, report: usize, totals: usize, written: usize) {
-    let mut file = [0u8; MOST_READ];
-    let mut its_report = [0u8; MOST_READ];
-    let mut its_totals = [0u8; MOST_READ];
-    let mut its_file = [0u8; MOST_READ];
-    let length = read_file(table, &mut file);
-    let end = read_file(report, &mut its_report);
-    let last = read_file(totals, &mut its_totals);
-    let size = read_file(written, &mut its_file);
-    print_name(table);
-    check_table(
-        &file[..length],
-        &its_report[..end],
-        &its_totals[..last],
-        &its_file[..size],
-    );
+// The names of a table, its report, its totals and its written file.
+fn check_files(
+    rt: &impl Runtime,
+    table: &str,
+    report: &str,
+    totals: &str,
+    written: &str,
+) -> io::Result<()> {
+    let file = read_file(rt, table);
+    let its_report = read_file(rt, report);
+    let its_totals = read_file(rt, totals);
+    let its_file = read_file(rt, written);
+    print!(rt; "{table}")?;
+    check_table(rt, &file, &its_report, &its_totals, &its_file)
 }
 
-fn main() {
-    let n = os::arg_count();
-    for i in 0..n / 4 {
-        check_files(4 * i + 1, 4 * i + 2, 4 * i + 3, 4 * i + 4);
+fn main(rt: HostRuntime) -> io::Result<()> {
+    let names: Vec<String> = env::args(&rt)?.skip(1).collect(rt.alloc())?;
+    for four in names.chunks_exact(4) {
+        if let [table, report, totals, written] = four {
+            check_files(&rt, table, report, totals, written)?;
+        }
     }
+    Ok(())
 }

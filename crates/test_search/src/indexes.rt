@@ -2,8 +2,8 @@
 // with many. Each has to give the answer and to leave the lists that an empty one does.
 ghost use Rattle.std.specs.Prelude.{◌≤◌};
 
-use crate::print::{print, print_number};
 use crate::run::{MANY, Ran, alike, run};
+use std::io;
 use table::Table;
 
 const OTHERS: usize = 5;
@@ -24,33 +24,28 @@ fn lengths_of(room: usize) -> [usize; OTHERS]
     [less, room, room + 1, room + 2, MANY]
 }
 
-fn print_lengths(lengths: [usize; OTHERS]) {
-    print(b"\n  indexes 0");
-    for i in 0..OTHERS {
-        print_number(b" ", lengths[i] as u64);
-    }
-}
-
 // Prints how many of the six runs are alike, how many places their indexes have that hold 0, and
 // how many that still hold 7.
-pub fn show_indexes(first: Ran, table: Table, a: usize, d: usize, t: usize) {
-    let lengths = lengths_of(room_of(a, d));
-    print_lengths(lengths);
-    let held = first.held;
+pub fn show_indexes(
+    rt: &impl Print,
+    first: &Ran,
+    table: Table,
+    a: usize,
+    d: usize,
+    t: usize,
+) -> io::Result<()> {
+    print!(rt; "\n  indexes 0")?;
     let mut same: u64 = 1;
     let mut zeros = first.zeros;
     let mut sevens = first.sevens;
-    for i in 0..OTHERS {
-        let other = run(table, a, d, lengths[i], t);
-        let its = other.held;
-        if alike(held, its) {
-            same = std::num::wrapping_add_u64(same, 1);
+    for length in lengths_of(room_of(a, d)) {
+        print!(rt; " {length}")?;
+        let other = run(table, a, d, length, t);
+        if alike(&first.held, &other.held) {
+            same = same.wrapping_add(1);
         }
-        zeros = std::num::wrapping_add_u64(zeros, other.zeros);
-        sevens = std::num::wrapping_add_u64(sevens, other.sevens);
+        zeros = zeros.wrapping_add(other.zeros);
+        sevens = sevens.wrapping_add(other.sevens);
     }
-    print_number(b": alike ", same);
-    print_number(b", zeros ", zeros);
-    print_number(b", sevens ", sevens);
-    print(b"\n");
+    println!(rt; ": alike {same}, zeros {zeros}, sevens {sevens}")
 }

@@ -1,92 +1,72 @@
 // How a case, its answer and its lists are printed.
 use crate::run::{ALL, LONG, TRACE};
-use libc::STDOUT_FILENO;
+use std::io;
+use table::Refusal;
 use verdict::Found;
 
-pub fn print(word: &[u8]) {
-    io::write_all(STDOUT_FILENO, word);
-}
-
-pub fn print_number(before: &[u8], n: u64) {
-    io::write_all(STDOUT_FILENO, before);
-    io::print_decimal(STDOUT_FILENO, n);
-}
-
-fn print_u64(n: u64) {
-    print_number(b" ", n);
-}
-
 // A word, and after it n numbers of one of the list's parts, from its first place on.
-pub fn print_part(word: &[u8], held: [u64; ALL], from: usize, n: usize) {
-    print(word);
+pub fn print_part(
+    rt: &impl Print,
+    word: &str,
+    held: &[u64; ALL],
+    from: usize,
+    n: usize,
+) -> io::Result<()> {
+    print!(rt; "{word}")?;
     if TRACE < from {
-        return;
+        return Ok(());
     }
     for i in 0..LONG {
         if i < n {
-            print_u64(held[from + i]);
+            let number = held[from + i];
+            print!(rt; " {number}")?;
         }
     }
+    Ok(())
 }
 
 // The first `length` letters of a buffer that has n.
-pub fn print_trace(length: u16, held: [u64; ALL], n: usize) {
+pub fn print_trace(rt: &impl Print, length: u16, held: &[u64; ALL], n: usize) -> io::Result<()> {
     if (length as usize) <= n {
-        print_part(b", trace", held, TRACE, length as usize);
+        print_part(rt, ", trace", held, TRACE, length as usize)
     } else {
-        print_number(b", trace longer than its buffer: ", length as u64);
+        print!(rt; ", trace longer than its buffer: {length}")
     }
 }
 
-fn print_numbers(count: u16, lost: u16) {
-    print_number(b", ", count as u64);
-    print_number(b" states, lost ", lost as u64);
-}
-
 // The rows of a set, from 1: `, never 2 3 5`, or `, never -` if there is none.
-fn print_never(never: u64) {
-    print(b", never");
+fn print_never(rt: &impl Print, never: u64) -> io::Result<()> {
+    print!(rt; ", never")?;
     if never == 0 {
-        print(b" -");
+        print!(rt; " -")?;
     }
     let mut left = never;
     for row in 1..=64 {
         if left % 2 == 1 {
-            print_u64(row);
+            print!(rt; " {row}")?;
         }
         left = left / 2;
     }
+    Ok(())
 }
 
 // `trapped, 2 states, lost 1, never -`, or `no verdict` and no list, with `refused 21 line 0, `
 // before it, if the call is refused. Answers how many letters the trace has.
-pub fn print_found(found: Found) -> u16 {
+pub fn print_found(rt: &impl Print, found: Found) -> io::Result<u16> {
     match found {
-        Found::Refused(refusal) => {
-            print_number(b"refused ", refusal.number as u64);
-            print_number(b" line ", refusal.line as u64);
-            print(b", no verdict");
-            print_numbers(0, 0);
-            0
+        Found::Refused(Refusal { number, line }) => {
+            print!(rt; "refused {number} line {line}, no verdict, 0 states, lost 0")?;
+            Ok(0)
         }
         Found::Sound(summary) => {
-            print(b"sound");
-            print_numbers(summary.count, 0);
-            print_never(summary.lists.never);
-            0
+            print!(rt; "sound, {} states, lost 0", summary.count)?;
+            print_never(rt, summary.lists.never)?;
+            Ok(0)
         }
         Found::Trapped(summary, trap) => {
-            print(b"trapped");
-            print_numbers(summary.count, trap.lost);
-            print_never(summary.lists.never);
-            trap.length
+            print!(rt; "trapped, {} states, lost {}", summary.count, trap.lost)?;
+            print_never(rt, summary.lists.never)?;
+            Ok(trap.length)
         }
     }
-}
-
-pub fn print_sizes(a: usize, d: usize, t: usize) {
-    print_u64(a as u64);
-    print_u64(d as u64);
-    print_u64(t as u64);
-    print(b": ");
 }

@@ -87,7 +87,7 @@ fn holding(index: [u16; MANY], n: usize, value: u16) -> u64 {
     for i in 0..MANY {
         if i < n {
             if index[i] == value {
-                count = std::num::wrapping_add_u64(count, 1);
+                count = count.wrapping_add(1);
             }
         }
     }
@@ -124,7 +124,7 @@ pub fn run(table: Table, a: usize, d: usize, k: usize, t: usize) -> Ran {
 }
 
 // Whether two runs have the same answer and left the same in each place of the lists.
-pub fn alike(one: [u64; ALL], other: [u64; ALL]) -> bool {
+pub fn alike(one: &[u64; ALL], other: &[u64; ALL]) -> bool {
     for i in 0..ALL {
         if one[i] != other[i] {
             return false;

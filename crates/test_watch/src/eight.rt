@@ -3,8 +3,8 @@
 use crate::rows::{A, ALWAYS, C, NEVER};
 use crate::ways::Tally;
 use lending::MOST_LENT;
-use libc::STDOUT_FILENO;
 use pass::{Slot, Watch};
+use std::io;
 use table::{MOST_ROWS, MOST_TICKS, Row, Table};
 
 const NOT_A: u64 = 5;
@@ -109,41 +109,41 @@ fn eight_phases() -> Watch {
     }
 }
 
-fn print_before(watch: Watch) {
-    io::write_all(STDOUT_FILENO, b"before: ");
-    crate::show::print_codes(watch);
-    io::write_all(STDOUT_FILENO, b"\n");
+fn print_before(rt: &impl Print, watch: Watch) -> io::Result<()> {
+    print!(rt; "before: ")?;
+    crate::show::print_codes(rt, watch)?;
+    println!(rt)
 }
 
 // 17, 18 and 19: the state is kept.
-fn print_kept(tally: Tally, table: Table, watch: Watch) -> Tally {
+fn print_kept(rt: &impl Print, tally: Tally, table: Table, watch: Watch) -> io::Result<Tally> {
     let mut long = table;
     long.rows[MOST_ROWS - 1].tmax = MOST_TICKS + 1;
-    print_before(watch);
-    let mut last = crate::print_case(tally, b"eighth row's bound 61", long, watch, 1);
+    print_before(rt, watch)?;
+    let mut last = crate::print_case(rt, tally, "eighth row's bound 61", long, watch, 1)?;
     let mut far = watch;
     far.slots[2] = slot(123);
-    print_before(far);
-    last = crate::print_case(last, b"third row's code 123", table, far, 1);
-    print_before(watch);
-    crate::print_case(last, b"eight rows, letter 4", table, watch, 14)
+    print_before(rt, far)?;
+    last = crate::print_case(rt, last, "third row's code 123", table, far, 1)?;
+    print_before(rt, watch)?;
+    crate::print_case(rt, last, "eight rows, letter 4", table, watch, 14)
 }
 
-pub(crate) fn print_eight(tally: Tally) -> Tally {
+pub(crate) fn print_eight(rt: &impl Print, tally: Tally) -> io::Result<Tally> {
     let table = eight_rows();
     let watch = eight_phases();
     let start = watcher::start();
-    let late: &[u8] = b"eight rows";
-    print_before(watch);
-    let mut last = crate::print_cases(tally, late, table, watch, &[1, 2, 3, 10, 11, 20, 30, 3121]);
-    let early: &[u8] = b"eight rows from the start";
-    last = crate::print_cases(last, early, table, start, &[1, 2, 3, 10, 2013]);
-    last = print_kept(last, table, watch);
+    print_before(rt, watch)?;
+    let traces = [1, 2, 3, 10, 11, 20, 30, 3121];
+    let mut last = crate::print_cases(rt, tally, "eight rows", table, watch, &traces)?;
+    let early = "eight rows from the start";
+    last = crate::print_cases(rt, last, early, table, start, &[1, 2, 3, 10, 2013])?;
+    last = print_kept(rt, last, table, watch)?;
     let mut nine = table;
     nine.count = MOST_LENT as u8;
-    last = crate::print_case(last, b"nine rows", nine, start, 1);
+    last = crate::print_case(rt, last, "nine rows", nine, start, 1)?;
     nine.count = 255;
-    last = crate::print_case(last, b"255 rows", nine, start, 1);
-    crate::ways::print_spoilt(table, watch, &[1, 2]);
-    last
+    last = crate::print_case(rt, last, "255 rows", nine, start, 1)?;
+    crate::ways::print_spoilt(rt, table, watch, &[1, 2])?;
+    Ok(last)
 }

@@ -2,109 +2,98 @@
 ghost use Rattle.std.specs.Prelude.{◌<◌};
 
 use crate::runs::{ALL_COUNTS, ALL_EVENTS, KINDS, MOST_LETTERS, Run};
-use libc::STDOUT_FILENO;
 use pass::Watch;
-use table::{MOST_ROWS, Outcome};
+use std::io;
+use table::{MOST_ROWS, Outcome, Refusal};
 
 // `refused 19 line 0, ` if the call is refused, and nothing else.
-pub(crate) fn print_outcome(outcome: Outcome) {
+pub(crate) fn print_outcome(rt: &impl Print, outcome: Outcome) -> io::Result<()> {
     match outcome {
-        Outcome::Accepted => {}
-        Outcome::Refused(refusal) => {
-            io::write_all(STDOUT_FILENO, b"refused ");
-            io::print_decimal(STDOUT_FILENO, refusal.number as u64);
-            io::write_all(STDOUT_FILENO, b" line ");
-            io::print_decimal(STDOUT_FILENO, refusal.line as u64);
-            io::write_all(STDOUT_FILENO, b", ");
-        }
+        Outcome::Accepted => Ok(()),
+        Outcome::Refused(Refusal { number, line }) => print!(rt; "refused {number} line {line}, "),
     }
 }
 
-pub(crate) fn print_codes(watch: Watch) {
-    io::write_all(STDOUT_FILENO, b"codes");
-    let space: &[u8] = b" ";
-    for i in 0..MOST_ROWS {
-        let slot = watch.slots[i];
-        let phase = slot.phase;
-        io::write_all(STDOUT_FILENO, space);
-        io::print_decimal(STDOUT_FILENO, phases::code(phase) as u64);
+pub(crate) fn print_codes(rt: &impl Print, watch: Watch) -> io::Result<()> {
+    print!(rt; "codes")?;
+    for slot in watch.slots {
+        let code = phases::code(slot.phase);
+        print!(rt; " {code}")?;
     }
-}
-
-fn write(text: &[u8]) {
-    io::write_all(STDOUT_FILENO, text);
+    Ok(())
 }
 
 // The word of an event, after `+` if it is not the first.
-fn print_word(first: bool, k: usize) {
+fn print_word(rt: &impl Print, first: bool, k: usize) -> io::Result<()> {
     if !first {
-        write(b"+");
+        print!(rt; "+")?;
     }
-    match k {
-        0 => write(b"started"),
-        1 => write(b"realised"),
-        2 => write(b"aborted"),
-        3 => write(b"acting"),
-        4 => write(b"completed"),
-        _ => write(b"broken"),
-    }
+    let word = match k {
+        0 => "started",
+        1 => "realised",
+        2 => "aborted",
+        3 => "acting",
+        4 => "completed",
+        _ => "broken",
+    };
+    print!(rt; "{word}")
 }
 
 // A row's events at a tick: `started+realised`, or `-` for none.
-fn print_events(number: u8) {
+fn print_events(rt: &impl Print, number: u8) -> io::Result<()> {
     if number == 0 {
-        write(b"-");
+        print!(rt; "-")?;
     }
     let mut left = number;
     let mut first = true;
     for k in 0..KINDS {
         if left % 2 == 1 {
-            print_word(first, k);
+            print_word(rt, first, k)?;
             first = false;
         }
         left = left / 2;
     }
+    Ok(())
 }
 
 // The events of tick i of the rows that are used, and of another that has any.
-fn print_rows(events: [u8; ALL_EVENTS], i: usize, used: usize)
+fn print_rows(rt: &impl Print, events: [u8; ALL_EVENTS], i: usize, used: usize) -> io::Result<()>
     requires { i < 6 }
 {
-    let space: &[u8] = b" ";
     for j in 0..MOST_ROWS {
         let number = events[MOST_ROWS * i + j];
         if (j < used) | (number != 0) {
             if 0 < j {
-                write(space);
+                print!(rt; " ")?;
             }
-            print_events(number);
+            print_events(rt, number)?;
         }
     }
+    Ok(())
 }
 
 // The ticks that were made, a line for each. Only the last can be refused.
-pub(crate) fn print_ticks(run: Run, used: usize) {
-    let events = run.events;
-    let outcome = run.outcome;
-    let tick: &[u8] = b"    tick ";
-    let colon: &[u8] = b": ";
-    let end: &[u8] = b"\n";
+pub(crate) fn print_ticks(rt: &impl Print, run: Run, used: usize) -> io::Result<()> {
     for i in 0..MOST_LETTERS {
         if i < run.ticks {
-            io::write_all(STDOUT_FILENO, tick);
-            io::print_decimal(STDOUT_FILENO, (i + 1) as u64);
-            io::write_all(STDOUT_FILENO, colon);
+            print!(rt; "    tick {}: ", i + 1)?;
             if i + 1 == run.ticks {
-                print_outcome(outcome);
+                print_outcome(rt, run.outcome)?;
             }
-            print_rows(events, i, used);
-            io::write_all(STDOUT_FILENO, end);
+            print_rows(rt, run.events, i, used)?;
+            println!(rt)?;
         }
     }
+    Ok(())
 }
 
 // The counts of row j: six numbers after a word, unless they are 0 and the row is not used.
-fn print_row_counts(counts: [u64; ALL_COUNTS], j: usize, used: usize)
+fn print_row_counts(
+    rt: &impl Print,
+    counts: [u64; ALL_COUNTS],
+    j: usize,
+    used: usize,
+) -> io::Result<()>
     requires { j < 8 }
 {
     let mut none = true;
@@ -114,21 +103,20 @@ fn print_row_counts(counts: [u64; ALL_COUNTS], j: usize, used: usize)
         }
     }
     if none & (used <= j) {
-        return;
+        return Ok(());
     }
-    io::write_all(STDOUT_FILENO, b"    counts");
-    let space: &[u8] = b" ";
+    print!(rt; "    counts")?;
     for k in 0..KINDS {
-        io::write_all(STDOUT_FILENO, space);
-        io::print_decimal(STDOUT_FILENO, counts[KINDS * j + k]);
+        let count = counts[KINDS * j + k];
+        print!(rt; " {count}")?;
     }
-    io::write_all(STDOUT_FILENO, b"\n");
+    println!(rt)
 }
 
 // The counts of the rows that are used, a line for each, and of another that has any.
-pub(crate) fn print_counts(run: Run, used: usize) {
-    let counts = run.counts;
+pub(crate) fn print_counts(rt: &impl Print, run: Run, used: usize) -> io::Result<()> {
     for j in 0..MOST_ROWS {
-        print_row_counts(counts, j, used);
+        print_row_counts(rt, run.counts, j, used)?;
     }
+    Ok(())
 }

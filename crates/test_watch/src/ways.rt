@@ -2,8 +2,8 @@
 // codes and all counts of the three, and all events of the two that tick letter by letter.
 use crate::runs::{ALL_COUNTS, ALL_EVENTS, Run, by_play, by_ticks};
 use crate::show::{print_codes, print_counts, print_outcome, print_ticks};
-use libc::STDOUT_FILENO;
 use pass::{Slot, Watch};
+use std::io;
 use step::Phase;
 use table::{MOST_ROWS, Outcome, Refusal, Table};
 
@@ -92,12 +92,11 @@ fn all_same(played: Run, ticked: Run, lent: Run) -> bool {
         & same_events(events, others)
 }
 
-fn print_way(name: &[u8], run: Run) {
-    io::write_all(STDOUT_FILENO, name);
-    let outcome = run.outcome;
-    print_outcome(outcome);
-    print_codes(run.watch);
-    io::write_all(STDOUT_FILENO, b"\n");
+fn print_way(rt: &impl Print, name: &str, run: Run) -> io::Result<()> {
+    print!(rt; "{name}")?;
+    print_outcome(rt, run.outcome)?;
+    print_codes(rt, run.watch)?;
+    println!(rt)
 }
 
 // How many rows of a table are shown: those that it can have.
@@ -112,31 +111,33 @@ fn rows_shown(count: u8) -> usize {
 }
 
 // A trace all three ways: what each gives, and a line more if they differ.
-pub(crate) fn print_ways(tally: Tally, table: Table, watch: Watch, trace: &[u8]) -> Tally {
+pub(crate) fn print_ways(
+    rt: &impl Print,
+    tally: Tally,
+    table: Table,
+    watch: Watch,
+    trace: &[u8],
+) -> io::Result<Tally> {
     let played = by_play(table, watch, trace);
     let ticked = by_ticks(false, table, watch, trace);
     let lent = by_ticks(true, table, watch, trace);
     let used = rows_shown(table.count);
-    print_way(b"  played: ", played);
-    print_counts(played, used);
-    print_way(b"  ticked: ", ticked);
-    print_ticks(ticked, used);
-    print_way(b"  lent: ", lent);
-    print_ticks(lent, used);
+    print_way(rt, "  played: ", played)?;
+    print_counts(rt, played, used)?;
+    print_way(rt, "  ticked: ", ticked)?;
+    print_ticks(rt, ticked, used)?;
+    print_way(rt, "  lent: ", lent)?;
+    print_ticks(rt, lent, used)?;
     let alike = all_same(played, ticked, lent);
     if !alike {
-        io::write_all(STDOUT_FILENO, b"  these differ\n");
+        println!(rt; "  these differ")?;
     }
-    counted(tally, alike)
+    Ok(counted(tally, alike))
 }
 
-fn print_noticed(name: &[u8], alike: bool) {
-    io::write_all(STDOUT_FILENO, name);
-    if alike {
-        io::write_all(STDOUT_FILENO, b": not noticed\n");
-    } else {
-        io::write_all(STDOUT_FILENO, b": noticed\n");
-    }
+fn print_noticed(rt: &impl Print, name: &str, alike: bool) -> io::Result<()> {
+    let noticed = if alike { "not noticed" } else { "noticed" };
+    println!(rt; "{name}: {noticed}")
 }
 
 // A run with one place spoilt: the last row's phase, the number, or for a trace of two ticks the
@@ -181,34 +182,28 @@ fn spoilt_count(run: Run) -> Run {
 }
 
 // The comparison sees one place that is spoilt.
-pub(crate) fn print_spoilt(table: Table, watch: Watch, trace: &[u8]) {
+pub(crate) fn print_spoilt(
+    rt: &impl Print,
+    table: Table,
+    watch: Watch,
+    trace: &[u8],
+) -> io::Result<()> {
     let played = by_play(table, watch, trace);
     let ticked = by_ticks(false, table, watch, trace);
     let lent = by_ticks(true, table, watch, trace);
-    print_noticed(b"nothing spoilt", all_same(played, ticked, lent));
-    print_noticed(
-        b"last row spoilt",
-        all_same(played, ticked, spoilt_phase(lent)),
-    );
-    print_noticed(
-        b"number spoilt",
-        all_same(played, ticked, spoilt_number(lent)),
-    );
-    print_noticed(
-        b"event spoilt",
-        all_same(played, ticked, spoilt_event(lent)),
-    );
-    print_noticed(
-        b"count spoilt",
-        all_same(spoilt_count(played), ticked, lent),
-    );
+    print_noticed(rt, "nothing spoilt", all_same(played, ticked, lent))?;
+    let phase = all_same(played, ticked, spoilt_phase(lent));
+    print_noticed(rt, "last row spoilt", phase)?;
+    let number = all_same(played, ticked, spoilt_number(lent));
+    print_noticed(rt, "number spoilt", number)?;
+    let event = all_same(played, ticked, spoilt_event(lent));
+    print_noticed(rt, "event spoilt", event)?;
+    let count = all_same(spoilt_count(played), ticked, lent);
+    print_noticed(rt, "count spoilt", count)
 }
 
 // How many cases went alike all ways.
-pub(crate) fn print_tally(tally: Tally) {
-    io::write_all(STDOUT_FILENO, b"all ways: ");
-    io::print_decimal(STDOUT_FILENO, tally.alike as u64);
-    io::write_all(STDOUT_FILENO, b" alike, ");
-    io::print_decimal(STDOUT_FILENO, tally.unlike as u64);
-    io::write_all(STDOUT_FILENO, b" not\n");
+pub(crate) fn print_tally(rt: &impl Print, tally: Tally) -> io::Result<()> {
+    let Tally { alike, unlike } = tally;
+    println!(rt; "all ways: {alike} alike, {unlike} not")
 }
