@@ -56,6 +56,11 @@ def declared():
         code = re.sub(r"(?<!\S)--[^\n]*", "", read(path))
         for m in DECLARED.finditer(code):
             where[m["n"]].add(path)
+        # several constructors in one line
+        for m in "/specs/" in path and re.finditer(r"^[ ]+([a-z][\w'-]*(?: [a-z][\w'-]*)+) : ", code, re.M) or ():
+            for name in m[1].split():
+                if name not in KEYWORDS | {"pub", "abbrev", "unfoldable", "record", "data"}:
+                    where[name].add(path)
     return where
 
 

@@ -1,6 +1,8 @@
 // The checker: the bytes of a table file in, the bytes of its report, of its totals or of its table
 // written again out. specs/FileReport.antt and specs/FileLoad.antt, and `RightWriting` of the crate
 // demands, say what is right, for every file and all lent memory.
+#![tactic(auto)]
+
 ghost use Rattle.std.specs.Prelude.{true, ◌≡◌, length};
 ghost use Rattle.table.specs.Valid.{table_valid};
 ghost use Rattle.table.specs.declared.Outcome.TheVariants.{Accepted};

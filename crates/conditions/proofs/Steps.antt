@@ -8,7 +8,7 @@ use mathlib.Core.List.{List}
 use mathlib.Core.Path.{◌≡◌, refl, sym, ap, subst}
 use lib.Bits.{bit_and, bit_or}
 use lib.ListN.{length}
-use Rattle.letters.proofs.Sets.{set_of_ext, set_of_others, bit_or_assoc, bit_and_assoc}
+use Rattle.letters.proofs.Sets.{set_of_ext, set_of_others}
 use Rattle.table.specs.declared.Name.{Name}
 use Rattle.conditions.specs.Condition.{Kind, choice, term, factor, holds_at}
 use Rattle.conditions.specs.Inner.Reading.{is_at, joined, others, closed, followed, digit_at}
@@ -44,17 +44,16 @@ module _ {names : List Name} {n : ℕ} {s : List ℕ} {k : Kind} {at : ℕ} {r :
 -- Parts of a kind joined by a byte: terms by `|`, factors by `&`.
 pub record Joins (k part : Kind) (b : ℕ) (g : ℕ → ℕ → ℕ) : Type 0 where
   ranks : rank k ≡ suc (rank part)
-  turn : (x y z : ℕ) → g (g x y) z ≡ g x (g y z)
   reading : (names : List Name) (n : ℕ) (s : List ℕ) (f at : ℕ) → reads names n s (suc f) k at
       ≡ followed s b (reads names n s f k) g (reads names n s f part at)
 
 pub choices : Joins choice term (code "|") bit_or
 unfolding reads
-choices = record { ranks = refl; turn = bit_or_assoc; reading = λ names n s f at. refl }
+choices = record { ranks = refl; reading = λ names n s f at. refl }
 
 pub terms : Joins term factor (code "&") bit_and
 unfolding reads
-terms = record { ranks = refl; turn = bit_and_assoc; reading = λ names n s f at. refl }
+terms = record { ranks = refl; reading = λ names n s f at. refl }
 
 -- The parts so far are joined to v and u and end at next: where the byte b stands there, more of
 -- the same kind is joined to them; else they are all.
@@ -77,29 +76,40 @@ module _ {names : List Name} {n : ℕ} {s : List ℕ} {k part : Kind} {b : ℕ} 
   pub joins_nothing : r ≡ Nothing → ReadsAs names n s k at Nothing
   joins_nothing e = step (λ f p. rw (once f p, e))
 
+  pub joins_stop : {v : ℕ} {u : Bool} {next : ℕ} → r ≡ Set v u next → is_at s next b ≡ false
+      → ReadsAs names n s k at (Set v u next)
+  joins_stop e t = step (λ f p. rw (once f p, e, t))
+
+  pub joins_more : {v : ℕ} {u : Bool} {next : ℕ} {q x : Read} → r ≡ Set v u next
+      → is_at s next b ≡ true → ReadsAs names n s k (next + 1) q → x ≡ joined g v u q
+      → ReadsAs names n s k at x
+  joins_more {v} {u} {next} e t more i =
+      let starts = reads_starts first e in
+      let inside = is_at_lt s next b t in
+      step (λ f p. rw (once f p, e, t, ← more.reading f (omega arith), i))
+
   pub joins_first : {v : ℕ} {u : Bool} {next : ℕ} → r ≡ Set v u next
       → Begun names n s k b g at v u next
   joins_first {v} {u} {next} e = record {
     starts = reads_starts first e;
-    stop = λ t. step (λ f p. rw (once f p, e, t));
-    more = λ q t h.
-        let starts = reads_starts first e in
-        let inside = is_at_lt s next b t in
-        step (λ f p. rw (once f p, e, t, ← h.reading f (omega arith)));
+    stop = λ t. joins_stop e t;
+    more = λ q t h. joins_more e t h refl;
   }
 
--- One part more.
+-- One part more: what it is joined to the parts so far.
 module _ {names : List Name} {n : ℕ} {s : List ℕ} {k part : Kind} {b : ℕ} {g : ℕ → ℕ → ℕ}
-    {at v : ℕ} {u : Bool} {next : ℕ} {r : Read} (joins : Joins k part b g)
-    (begun : Begun names n s k b g at v u next) (here : is_at s next b ≡ true)
-    (second : ReadsAs names n s part (next + 1) r) where
-  pub more_nothing : r ≡ Nothing → ReadsAs names n s k at Nothing
-  more_nothing e = begun.more Nothing here (joins_nothing joins second e)
+    {at v : ℕ} {u : Bool} {next : ℕ} (joins : Joins k part b g)
+    (turn : (x y z : ℕ) → g (g x y) z ≡ g x (g y z)) (begun : Begun names n s k b g at v u next)
+    (here : is_at s next b ≡ true) where
+  With : Read → Type 0
+  With Nothing = ReadsAs names n s k at Nothing
+  With (Set w t last) = Begun names n s k b g at w t last
 
-  pub joins_more : {w : ℕ} {t : Bool} {last : ℕ} → r ≡ Set w t last
-      → Begun names n s k b g at (g v w) (u || t) last
-  joins_more {w} {t} {last} e =
-      let rest = joins_first joins second e in
+  more_with : (r : Read) → ReadsAs names n s part (next + 1) r → With (joined g v u r)
+  unfolding With
+  more_with Nothing second = begun.more Nothing here (joins_nothing joins second refl)
+  more_with (Set w t last) second =
+      let rest = joins_first joins second refl in
       record {
         starts = omega (arith, begun.starts, rest.starts);
         stop = λ x. begun.more (Set w t last) here (rest.stop x);
@@ -110,7 +120,30 @@ module _ {names : List Name} {n : ℕ} {s : List ℕ} {k part : Kind} {b : ℕ} 
     where
       turned : (q : Read) → joined g v u (joined g w t q) ≡ joined g (g v w) (u || t) q
       turned Nothing = refl
-      turned (Set x y z) = rw (joins.turn v w x, or_assoc u t y)
+      turned (Set x y z) = rw (turn v w x, or_assoc u t y)
+
+  pub more_nothing : {r q : Read} → ReadsAs names n s part (next + 1) r → q ≡ joined g v u r
+      → q ≡ Nothing → ReadsAs names n s k at Nothing
+  unfolding With
+  more_nothing {r} second i e = subst With e (subst With (sym i) (more_with r second))
+
+  pub more_set : {r q : Read} {w : ℕ} {t : Bool} {last : ℕ} → ReadsAs names n s part (next + 1) r
+      → q ≡ joined g v u r → q ≡ Set w t last → Begun names n s k b g at w t last
+  unfolding With
+  more_set {r} second i e = subst With e (subst With (sym i) (more_with r second))
+
+  -- What is joined ends past the part's first byte.
+  pub more_starts : {r q : Read} {w : ℕ} {t : Bool} {last : ℕ}
+      → ReadsAs names n s part (next + 1) r → q ≡ joined g v u r → q ≡ Set w t last → next < last
+  more_starts {r} second i e = subst Past e (subst Past (sym i) (past r second))
+    where
+      Past : Read → Type 0
+      Past Nothing = 0 ≤ 0
+      Past (Set w t last) = next < last
+
+      past : (r : Read) → ReadsAs names n s part (next + 1) r → Past (joined g v u r)
+      past Nothing second = omega arith
+      past (Set w t last) second = omega (arith, reads_starts second refl)
 
 -- The other letters of the other letters are the letters, where a condition means them.
 others_twice : {names : List Name} {n : ℕ} {s : List ℕ} {k : Kind} {at : ℕ} (r : Read)
@@ -131,7 +164,7 @@ pub record Signs (names : List Name) (n : ℕ) (s : List ℕ) (at i : ℕ) (odd 
       → ReadsAs names n s factor at (cond odd (others n r) r)
 
 module _ {names : List Name} {n : ℕ} {s : List ℕ} {at : ℕ} {q : Read} where
-  factor_negated : {r : Read} → is_at s at (code "!") ≡ true
+  pub factor_negated : {r : Read} → is_at s at (code "!") ≡ true
       → ReadsAs names n s factor (at + 1) r
       → q ≡ others n r → ReadsAs names n s factor at q
   unfolding reads

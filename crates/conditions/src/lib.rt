@@ -3,11 +3,12 @@
 #![tactic(auto)]
 
 ghost use Rattle.std.specs.Prelude.{◌≡◌, take, drop};
+ghost use Rattle.std.specs.Int.Bits.{bit_and, bit_or};
 ghost use Rattle.letters.specs.Letter.{width};
 ghost use Rattle.table.specs.Name.{name_run};
 ghost use Rattle.conditions.specs.Condition.{name_of, place, Kind};
 ghost use Rattle.conditions.specs.Inner.Judge.{is_byte, deep, verdict_of, judge};
-ghost use Rattle.conditions.specs.Inner.Reading.{is_at, name_at, digit_at, others};
+ghost use Rattle.conditions.specs.Inner.Reading.{is_at, name_at, digit_at, joined, others};
 ghost use Rattle.conditions.specs.Inner.Reading.{closed, ReadsAs, wholly, condition_of};
 
 use table::{MOST_SIGNALS, NAME_CHARS, Name};
@@ -126,6 +127,25 @@ fn digit_at(s: &[u8], at: usize, names: [Name; MOST_SIGNALS], signals: u8) -> Re
     }
 }
 
+// The letters of either part; of both.
+fn either(v: u64, u: bool, more: Read) -> Read
+    ensures { result ≡ joined bit_or v u more }
+{
+    match more {
+        Read::Nothing => Read::Nothing,
+        Read::Set(w, t, last) => Read::Set(v | w, u | t, last),
+    }
+}
+
+fn both(v: u64, u: bool, more: Read) -> Read
+    ensures { result ≡ joined bit_and v u more }
+{
+    match more {
+        Read::Nothing => Read::Nothing,
+        Read::Set(w, t, last) => Read::Set(v & w, u | t, last),
+    }
+}
+
 // The other letters.
 fn negate(signals: u8, part: Read) -> Read
     ensures { result ≡ others (width signals) part }
@@ -162,11 +182,12 @@ fn choice(s: &[u8], at: usize, names: [Name; MOST_SIGNALS], signals: u8) -> Read
         return Read::Nothing;
     };
     while is_at(s, next, b'|') {
-        let Read::Set(w, t, last) = term(s, next + 1, names, signals) else {
+        let more = term(s, next + 1, names, signals);
+        let Read::Set(w, t, last) = either(v, u, more) else {
             return Read::Nothing;
         };
-        v |= w;
-        u |= t;
+        v = w;
+        u = t;
         next = last;
     }
     Read::Set(v, u, next)
@@ -182,11 +203,12 @@ fn term(s: &[u8], at: usize, names: [Name; MOST_SIGNALS], signals: u8) -> Read
         return Read::Nothing;
     };
     while is_at(s, next, b'&') {
-        let Read::Set(w, t, last) = factor(s, next + 1, names, signals) else {
+        let more = factor(s, next + 1, names, signals);
+        let Read::Set(w, t, last) = both(v, u, more) else {
             return Read::Nothing;
         };
-        v &= w;
-        u |= t;
+        v = w;
+        u = t;
         next = last;
     }
     Read::Set(v, u, next)

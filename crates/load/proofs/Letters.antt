@@ -1,16 +1,32 @@
 -- The numbers and the letters of a load. Assumes nothing.
-use Prim.Native.Nat.{ℕ, zero, suc, ◌<◌}
-use native.Mathlib.Nat.{mod-lt}
+use Prim.Native.Nat.{ℕ, zero, suc, ◌%◌, ◌<◌, ◌≤◌}
+use native.Mathlib.Decide.{dec_le}
+use native.Mathlib.Nat.{mod-lt, mod-eq_of_lt}
 use native.Mathlib.Omega.{arith}
 use mathlib.Core.List.{List, [], ◌∷◌, ◌++◌}
 use mathlib.Core.Path.{◌≡◌, refl, sym, ap, ◌∙◌}
 use lib.ListN.{length, get_or}
 use lib.Pow.{pow_pos}
 use lib.Seq.{ext_get_or}
-use Rattle.letters.specs.Letter.{letters}
+use Rattle.letters.specs.Letter.{letters, set_bits, width}
 use Rattle.traces.specs.Trace.{AllBelow}
 use Rattle.load.specs.Load.{next_number, numbers_from, letter_of, load_of}
 use Rattle.load.specs.Further.Numbers.{IsLoad}
+
+-- There is a letter to take; and of numbers below 64 it is the same whether all letters are
+-- counted or the most that a set can hold.
+pub width_positive : (s : ℕ) → 0 < width s
+width_positive s = omega (arith, pow_pos s)
+
+pub letter_narrow : (s x : ℕ) → x < set_bits → x % width s ≡ x % letters s
+letter_narrow s x low = go (dec_le (letters s) set_bits)
+  where
+    go : Dec (letters s ≤ set_bits) → x % width s ≡ x % letters s
+    go (yes few) = let narrow : width s ≡ letters s = omega arith in rw narrow
+    go (no many) =
+        let all : width s ≡ set_bits = omega arith in
+        let wide : x < letters s = omega arith in
+        rw all (mod-eq_of_lt low ∙ sym (mod-eq_of_lt wide))
 
 -- The number after so many ticks.
 unfoldable pub number_after : ℕ → ℕ → ℕ

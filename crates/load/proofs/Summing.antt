@@ -5,12 +5,13 @@ use native.Mathlib.Omega.{arith}
 use mathlib.Core.List.{List, [], ◌∷◌, ◌++◌}
 use mathlib.Core.Path.{◌≡◌, refl, sym, ap, ◌∙◌}
 use lib.ListN.{length, get_or, take}
-use lib.Seq.{take-suc}
+use lib.Seq.{take_all, take-suc}
+use Rattle.table.specs.Limits.{most_rows}
 use Rattle.load.specs.declared.Sums.{Sums}
 use Rattle.load.specs.declared.Totals.{Totals}
 use Rattle.load.specs.Load.{no_totals, sum_of, sums_of}
 use Rattle.load.specs.Further.Balance.{Balanced, SumsBalanced, OneMore}
-use Rattle.load.specs.Inner.Tally.{with_row, Grown}
+use Rattle.load.specs.Inner.Tally.{SumRoom, with_row, Grown}
 
 sum_snoc : (part : Totals → ℕ) (all : List Totals) (t : Totals)
     → sum_of part (all ++ (t ∷ [])) ≡ sum_of part all + part t
@@ -61,6 +62,14 @@ summing_none rows all = record {
 }
 
 module _ {rows : ℕ} {all : List Totals} {sums : Sums} {i : ℕ} (s : Summing rows all sums i) where
+  pub summing_room : i < most_rows → SumRoom sums
+  summing_room h = record {
+    realised = omega (arith, s.realised);
+    completed = omega (arith, s.completed);
+    breaks = omega (arith, s.breaks);
+    pending = omega (arith, s.pending);
+  }
+
   pub summing_next : {after : Sums} → i < rows → i < length all
       → after ≡ with_row sums (get_or all i no_totals) → Grown sums after
       → Summing rows all after (i + 1)
@@ -75,6 +84,15 @@ module _ {rows : ℕ} {all : List Totals} {sums : Sums} {i : ℕ} (s : Summing r
     breaks = omega (arith, s.breaks, g.breaks);
     pending = omega (arith, s.pending, g.pending);
   }
+
+  -- All rows that are asked for, or all that there are.
+  pub summing_end : rows ≤ i → sums ≡ sums_of (take rows all)
+  summing_end h = s.are
+      ∙ ap (λ (n : ℕ). sums_of (take n all)) (let same : i ≡ rows = omega (arith, s.low) in same)
+
+  pub summing_all : length all ≤ i → sums ≡ sums_of (take rows all)
+  summing_all h =
+      s.are ∙ ap sums_of (take_all i all h ∙ sym (take_all rows all (omega (arith, s.low))))
 
 -- Where each of some rows is balanced, so are the sums.
 pub sums_balance : (n : ℕ) (all : List Totals)

@@ -194,7 +194,7 @@ module _ (names : List Name) (signals : ℕ) (version : Version) (rest : List �
   pub rows_fault : 0 < length rest → (number line : ℕ)
       → rows_from names signals version 0 (lines rest) ≡ fault number line
       → rows_answer names signals version (lines rest) ≡ refused_file number line
-  rows_fault h number line e = rows_some h ∙ ap (rows_reading names signals version) e
+  rows_fault h number its_line e = rows_some h ∙ ap (rows_reading names signals version) e
 
   pub rows_accepted : 0 < length rest → (rows : List Row)
       → rows_from names signals version 0 (lines rest) ≡ rows_read rows

@@ -8,7 +8,7 @@ use mathlib.Core.Path.{◌≡◌, refl, sym, ap, ap₂, ◌∙◌}
 use lib.Dec.{leb}
 use lib.ListN.{length, get_or, take, drop, replicate, take-append-drop}
 use lib.Seq.{length-take-le, take_all}
-use Rattle.letters.specs.Lists.{every, some}
+use Rattle.letters.specs.Lists.{every}
 use Rattle.letters.proofs.Lists.{and_left, and_right}
 use Rattle.table.specs.Row.{is_zero}
 use Rattle.table.specs.Name.{name_run, name_valid, name_unused}

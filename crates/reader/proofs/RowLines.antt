@@ -16,7 +16,7 @@ use Rattle.text.specs.Words.{rule_word}
 use Rattle.text.specs.declared.Version.{Version}
 use Rattle.text.proofs.Decimals.{decimal_length}
 use Rattle.conditions.specs.Judge.{IsCondition}
-use Rattle.rows.specs.Row.{FieldKind, aCondition, aBound, field_kinds, row_values, IsField}
+use Rattle.rows.specs.Row.{FieldKind, a_condition, a_bound, field_kinds, row_values, IsField}
 use Rattle.rows.specs.Row.{AreFields, none as nothing, and as also, IsRow}
 use Rattle.rows.proofs.Fields.{fields_free}
 use Rattle.rows.proofs.Rules.{six_places}
@@ -25,8 +25,8 @@ use Rattle.reader.specs.Grammar.{Each, none, and}
 -- What is so of each set of a row, and that its bounds are at most 60, field by field.
 module _ (P : ℕ → Type 0) where
   abbrev Right : FieldKind → ℕ → Type 0
-  Right aCondition v = P v
-  Right aBound v = v ≤ most_ticks
+  Right a_condition v = P v
+  Right a_bound v = v ≤ most_ticks
 
   all_at : {l : List ℕ} → All P l → (i : ℕ) → i < length l → P (get_or l i 0)
   all_at All-none i low = absurd (omega arith)
@@ -48,8 +48,8 @@ module _ (P : ℕ → Type 0) where
 -- The texts of fields with these values, where a set has this text; and the line of a row.
 module _ (condition : ℕ → List ℕ) where
   abbrev pub field_text : FieldKind → ℕ → List ℕ
-  field_text aCondition v = condition v
-  field_text aBound v = decimal v
+  field_text a_condition v = condition v
+  field_text a_bound v = decimal v
 
   unfoldable pub texts_of : List FieldKind → List ℕ → List (List ℕ)
   texts_of [] values = []
@@ -73,8 +73,8 @@ module _ (condition : ℕ → List ℕ) where
   texts_short few {P} (and {a} {b} h more) = all-and (short a b h) (texts_short few more)
     where
       short : (kind : FieldKind) (v : ℕ) → Right P kind v → length (field_text kind v) ≤ 2
-      short aCondition v h = few v
-      short aBound v h = decimal_length 1 v (omega arith)
+      short a_condition v h = few v
+      short a_bound v h = decimal_length 1 v (omega arith)
 
   module _ (names : List Name) (n : ℕ) where
     abbrev Means : ℕ → Type 0
@@ -88,8 +88,8 @@ module _ (condition : ℕ → List ℕ) where
       where
         right : (kind : FieldKind) (v : ℕ) → Right Means kind v
             → IsField names n kind (field_text kind v) v
-        right aCondition v h = h
-        right aBound v h = record { small = h; bytes = refl }
+        right a_condition v h = h
+        right a_bound v h = record { small = h; bytes = refl }
 
     pub line_row : (version : Version) (row : Row) → length row.sets ≡ conditions
         → All Means row.sets → RowBounds row → IsRow names n version (row_line row) row

@@ -13,7 +13,7 @@ use Rattle.letters.specs.Letter.{letters, width, set_valid}
 use Rattle.letters.specs.Lists.{every}
 use Rattle.letters.proofs.Lists.{every_replicate}
 use Rattle.letters.proofs.Sets.{set_of_lt}
-use Rattle.table.specs.Limits.{most_signals, most_rows, most_ticks}
+use Rattle.table.specs.Limits.{most_signals, most_ticks}
 use Rattle.table.specs.Row.{row_valid}
 use Rattle.table.specs.Name.{name_valid, name_unused, all_distinct}
 use Rattle.table.specs.Valid.{rows_valid, names_valid, table_valid}
@@ -29,7 +29,7 @@ use Rattle.reader.proofs.Only.{names_taken}
 use Rattle.text.specs.Lines.{All, none as All-none, and as all-and}
 use Rattle.text.specs.declared.Version.{Version}
 use Rattle.conditions.specs.Judge.{IsCondition}
-use Rattle.rows.specs.Row.{FieldKind, aCondition, aBound, field_kinds, IsField, AreFields}
+use Rattle.rows.specs.Row.{FieldKind, a_condition, a_bound, field_kinds, IsField, AreFields}
 use Rattle.rows.specs.Row.{none as nothing, and as also, row_values, Ordered, IsRow}
 use Rattle.rows.proofs.Rules.{row_of, row_same}
 
@@ -70,13 +70,13 @@ module _ (names : List Name) (s : ℕ) where
 
   -- What the kinds of its fields say of the values of a row.
   abbrev Held : FieldKind → ℕ → Type 0
-  Held aCondition v = set_valid s v ≡ true
-  Held aBound v = v ≤ most_ticks
+  Held a_condition v = set_valid s v ≡ true
+  Held a_bound v = v ≤ most_ticks
 
   field_held : (kind : FieldKind) (xs : List ℕ) (v : ℕ) → IsField names (width s) kind xs v
       → Held kind v
-  field_held aCondition xs v h = condition_fits h
-  field_held aBound xs v h = h.small
+  field_held a_condition xs v h = condition_fits h
+  field_held a_bound xs v h = h.small
 
   fields_held : {kinds : List FieldKind} {fields : List (List ℕ)} {values : List ℕ}
       → AreFields names (width s) kinds fields values → Each Held kinds values
@@ -84,7 +84,7 @@ module _ (names : List Name) (s : ℕ) where
   fields_held (also {kind} {xs} {v} h more) = and (field_held kind xs v h) (fields_held more)
 
   held_at : {kinds : List FieldKind} {values : List ℕ} → Each Held kinds values → (i : ℕ)
-      → i < length kinds → Held (get_or kinds i aBound) (get_or values i 0)
+      → i < length kinds → Held (get_or kinds i a_bound) (get_or values i 0)
   held_at none i h = absurd (omega arith)
   held_at (and h more) zero low = h
   held_at (and h more) (suc i) low = held_at more i (omega arith)

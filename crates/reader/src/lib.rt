@@ -1,6 +1,8 @@
 // The reader: any bytes in, exactly the tables of document 01 out. specs/Grammar.antt describes the
 // accepted files, specs/Right.antt which number and line each other one gets. Crate `header` reads
 // lines 1 and 2, crate `rows` each further line.
+#![tactic(auto)]
+
 ghost use Rattle.std.specs.Prelude.{◌≡◌, ◌+◌, min, length};
 ghost use Rattle.text.specs.Inner.Cut.{lines};
 ghost use Rattle.reader.specs.Reading.{empty_table, refused_file};

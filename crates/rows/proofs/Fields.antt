@@ -22,15 +22,15 @@ use Rattle.conditions.specs.declared.Judged.{Judged}
 use Rattle.conditions.specs.declared.Judged.TheVariants.{Letters, Refused as NoCondition}
 use Rattle.conditions.proofs.Judging.{judge_right, right_judge, judge_some}
 use Rattle.conditions.proofs.Signs.{in_condition, condition_free}
-use Rattle.rows.specs.Row.{FieldKind, aCondition, aBound, field_kinds, IsField, AreFields}
+use Rattle.rows.specs.Row.{FieldKind, a_condition, a_bound, field_kinds, IsField, AreFields}
 use Rattle.rows.specs.Row.{none, and, FirstFault, no_condition, no_bound, later}
 use Rattle.rows.specs.Inner.Row.{field_of, fields_of, number_among}
 use Rattle.rows.specs.declared.Field.TheVariants.{Value}
 
 -- The kinds of the fields from field k on are these.
 abbrev is_bound_kind : FieldKind → Bool
-is_bound_kind aCondition = false
-is_bound_kind aBound = true
+is_bound_kind a_condition = false
+is_bound_kind a_bound = true
 
 pub data KindsFrom : ℕ → List FieldKind → Type 0 where
   end : {k : ℕ} → KindsFrom k []
@@ -47,8 +47,8 @@ module _ (names : List Name) (n : ℕ) where
   field_value : (k : ℕ) (kind : FieldKind) → bound_at k ≡ is_bound_kind kind → (xs : List ℕ) (v : ℕ)
       → IsField names n kind xs v → field_of names n k xs ≡ Value v
   unfolding field_of
-  field_value k aCondition e xs v h = rw (e, right_judge names n xs (Letters v) (is_set h))
-  field_value k aBound e xs v h = rw (e, bound_of_complete xs v h)
+  field_value k a_condition e xs v h = rw (e, right_judge names n xs (Letters v) (is_set h))
+  field_value k a_bound e xs v h = rw (e, bound_of_complete xs v h)
 
   pub fields_values : {k : ℕ} {kinds : List FieldKind} {fields : List (List ℕ)} {values : List ℕ}
       → KindsFrom k kinds → AreFields names n kinds fields values
@@ -90,18 +90,18 @@ module _ (names : List Name) (n : ℕ) where
       rest kind v h (fault number first) = fault number (later {kind = kind} v h first)
 
       judged : (j : Judged) → RightCondition names n xs j → FieldsFound kinds fields
-          → FieldsFound (aCondition ∷ kinds) (xs ∷ fields)
-      judged (Letters v) (is_set c) others = rest aCondition v c others
+          → FieldsFound (a_condition ∷ kinds) (xs ∷ fields)
+      judged (Letters v) (is_set c) others = rest a_condition v c others
       judged (NoCondition m) h others = fault m (no_condition h)
 
       bounded : (b : Bound) → bound_of xs ≡ b → FieldsFound kinds fields
-          → FieldsFound (aBound ∷ kinds) (xs ∷ fields)
-      bounded (Ticks v) is others = rest aBound v (bound_of_right xs v is) others
+          → FieldsFound (a_bound ∷ kinds) (xs ∷ fields)
+      bounded (Ticks v) is others = rest a_bound v (bound_of_right xs v is) others
       bounded Wrong is others = fault 14 (no_bound (bound_of_wrong xs is))
 
       go : (kind : FieldKind) → FieldsFound kinds fields → FieldsFound (kind ∷ kinds) (xs ∷ fields)
-      go aCondition = judged (judge names n xs) (judge_right names n xs)
-      go aBound = bounded (bound_of xs) refl
+      go a_condition = judged (judge names n xs) (judge_right names n xs)
+      go a_bound = bounded (bound_of xs) refl
 
   -- A byte of neither conditions nor bounds is in no field.
   pub fields_free : (b : ℕ) → in_condition b ≡ false → within 48 57 b ≡ false
@@ -113,5 +113,5 @@ module _ (names : List Name) (n : ℕ) where
     where
       free : (kind : FieldKind) (xs : List ℕ) (v : ℕ) → IsField names n kind xs v
           → count b xs ≡ 0
-      free aCondition xs v h = condition_free names n b e h
-      free aBound xs v h = rw (← h.bytes) (decimal_free b d v)
+      free a_condition xs v h = condition_free names n b e h
+      free a_bound xs v h = rw (← h.bytes) (decimal_free b d v)

@@ -12,12 +12,12 @@ use Rattle.conditions.specs.declared.Judged.TheVariants.{Refused}
 -- "Every further line is `rule `, then twelve fields with eleven commas between them: TSE, TC, TEE,
 -- Tmin, Tmax, Lmin, Lmax, ASE, AC, AEE, Amin, Amax." A field is a condition, or a bound.
 pub data FieldKind : Type 0 where
-  aCondition aBound : FieldKind
+  a_condition a_bound : FieldKind
 
 abbrev pub field_kinds : List FieldKind
 field_kinds =
-    aCondition ∷ aCondition ∷ aCondition ∷ aBound ∷ aBound ∷ aBound ∷ aBound
-    ∷ aCondition ∷ aCondition ∷ aCondition ∷ aBound ∷ aBound ∷ []
+    a_condition ∷ a_condition ∷ a_condition ∷ a_bound ∷ a_bound ∷ a_bound ∷ a_bound
+    ∷ a_condition ∷ a_condition ∷ a_condition ∷ a_bound ∷ a_bound ∷ []
 
 pub record IsRule (line : List ℕ) (fields : List (List ℕ)) : Type 0 where
   pub line_is : line ≡ rule_word ++ joined comma fields
@@ -38,8 +38,8 @@ pub record Ordered (row : Row) : Type 0 where
 
 module _ (names : List Name) (letters : ℕ) where
   abbrev pub IsField : FieldKind → List ℕ → ℕ → Type 0
-  IsField aCondition xs v = IsCondition names letters xs v
-  IsField aBound xs v = IsBound xs v
+  IsField a_condition xs v = IsCondition names letters xs v
+  IsField a_bound xs v = IsBound xs v
 
   -- Fields of these kinds, that are all right, with these values.
   pub data AreFields : List FieldKind → List (List ℕ) → List ℕ → Type 0 where
@@ -64,9 +64,9 @@ module _ (names : List Name) (letters : ℕ) where
   pub data FirstFault : List FieldKind → List (List ℕ) → ℕ → Type 0 where
     no_condition : {xs : List ℕ} {number : ℕ} {kinds : List FieldKind} {fields : List (List ℕ)}
         → RightCondition names letters xs (Refused number)
-        → FirstFault (aCondition ∷ kinds) (xs ∷ fields) number
+        → FirstFault (a_condition ∷ kinds) (xs ∷ fields) number
     no_bound : {xs : List ℕ} {kinds : List FieldKind} {fields : List (List ℕ)}
-        → ((n : ℕ) → IsBound xs n → ⊥) → FirstFault (aBound ∷ kinds) (xs ∷ fields) 14
+        → ((n : ℕ) → IsBound xs n → ⊥) → FirstFault (a_bound ∷ kinds) (xs ∷ fields) 14
     later : {kind : FieldKind} {xs : List ℕ} {kinds : List FieldKind} {fields : List (List ℕ)}
         {number : ℕ} (v : ℕ) → IsField kind xs v
         → FirstFault kinds fields number → FirstFault (kind ∷ kinds) (xs ∷ fields) number

@@ -3,13 +3,14 @@
 use native.Mathlib.Omega.{arith}
 use mathlib.Core.Path.{sym, ◌∙◌}
 use lib.ListN.{take}
+use Rattle.letters.proofs.Sets.{bit_or_assoc, bit_and_assoc}
 use Rattle.letters.specs.Letter.{width}
 use Rattle.conditions.specs.Condition.{Kind}
 use Rattle.conditions.specs.Inner.Reading.{ReadsAs}
 use Rattle.conditions.proofs.Bytes.{is_at_lt}
-use Rattle.conditions.proofs.Steps.{reads_starts, choices, terms}
-use Rattle.conditions.proofs.Steps.{joins_nothing, joins_first, more_nothing}
-use Rattle.conditions.proofs.Steps.{joins_more, signs_none, signs_more, signs_odd}
+use Rattle.conditions.proofs.Steps.{choices, terms}
+use Rattle.conditions.proofs.Steps.{joins_nothing, joins_first, more_nothing, more_set}
+use Rattle.conditions.proofs.Steps.{more_starts, signs_none, signs_more, signs_odd}
 use Rattle.conditions.proofs.Steps.{signs_even, factor_grouped, factor_digit}
 use Rattle.conditions.proofs.+choice_factor_term.Goals.{factor-then-is_at, factor-else-is_at}
 use Rattle.conditions.proofs.+choice_factor_term.Goals as goal
@@ -25,27 +26,32 @@ choice-overflow_add-next t c =
     let inside = is_at_lt _ _ _ (sym c.is_at.ensures ∙ c.loop-names-test.true) in
     omega arith
 
-pub choice-term-requires-in-loop-names : goal.choice-term-requires-in-loop-names
-choice-term-requires-in-loop-names t c =
+pub choice-term-more-requires : goal.choice-term-more-requires
+choice-term-more-requires t c =
     let inside = is_at_lt _ _ _ (sym c.is_at.ensures ∙ c.loop-names-test.true) in
     let starts = c.loop-names.invariant.starts in
     (omega arith, tt)
 
-pub choice-returns-in_default-term : goal.choice-returns-in_default-term
-choice-returns-in_default-term t c =
-    more_nothing choices c.loop-names.invariant (sym c.is_at.ensures ∙ c.loop-names-test.true)
-    c.term-in-loop-names.ensures c.in_default-term.is
+pub choice-returns-in_default-either : goal.choice-returns-in_default-either
+choice-returns-in_default-either t c =
+    more_nothing choices bit_or_assoc c.loop-names.invariant
+    (sym c.is_at.ensures ∙ c.loop-names-test.true) c.term-more.ensures c.either.ensures
+    c.in_default-either.is
 
 pub choice-loop-names-smaller : goal.choice-loop-names-smaller
 choice-loop-names-smaller t c =
-    let inside = is_at_lt _ _ _ (sym c.is_at.ensures ∙ c.loop-names-test.true) in
-    let starts = reads_starts c.term-in-loop-names.ensures c.in-Set-term.is in
+    let here = sym c.is_at.ensures ∙ c.loop-names-test.true in
+    let inside = is_at_lt _ _ _ here in
+    let starts =
+    more_starts choices bit_or_assoc c.loop-names.invariant here c.term-more.ensures
+    c.either.ensures c.in-Set-either.is in
     omega arith
 
 pub choice-loop-names-preserved : goal.choice-loop-names-preserved
 choice-loop-names-preserved t c =
-    joins_more choices c.loop-names.invariant (sym c.is_at.ensures ∙ c.loop-names-test.true)
-    c.term-in-loop-names.ensures c.in-Set-term.is
+    more_set choices bit_or_assoc c.loop-names.invariant
+    (sym c.is_at.ensures ∙ c.loop-names-test.true) c.term-more.ensures c.either.ensures
+    c.in-Set-either.is
 
 pub choice-returns : goal.choice-returns
 choice-returns t c = c.loop-names.invariant.stop (sym c.is_at.ensures ∙ c.loop-names-test.false)
@@ -120,27 +126,32 @@ term-overflow_add-next t c =
     let inside = is_at_lt _ _ _ (sym c.is_at.ensures ∙ c.loop-names-test.true) in
     omega arith
 
-pub term-factor-requires-in-loop-names : goal.term-factor-requires-in-loop-names
-term-factor-requires-in-loop-names t c =
+pub term-factor-more-requires : goal.term-factor-more-requires
+term-factor-more-requires t c =
     let inside = is_at_lt _ _ _ (sym c.is_at.ensures ∙ c.loop-names-test.true) in
     let starts = c.loop-names.invariant.starts in
     (omega arith, tt)
 
-pub term-returns-in_default-factor : goal.term-returns-in_default-factor
-term-returns-in_default-factor t c =
-    more_nothing terms c.loop-names.invariant (sym c.is_at.ensures ∙ c.loop-names-test.true)
-    c.factor-in-loop-names.ensures c.in_default-factor.is
+pub term-returns-in_default-both : goal.term-returns-in_default-both
+term-returns-in_default-both t c =
+    more_nothing terms bit_and_assoc c.loop-names.invariant
+    (sym c.is_at.ensures ∙ c.loop-names-test.true) c.factor-more.ensures c.both.ensures
+    c.in_default-both.is
 
 pub term-loop-names-smaller : goal.term-loop-names-smaller
 term-loop-names-smaller t c =
-    let inside = is_at_lt _ _ _ (sym c.is_at.ensures ∙ c.loop-names-test.true) in
-    let starts = reads_starts c.factor-in-loop-names.ensures c.in-Set-factor.is in
+    let here = sym c.is_at.ensures ∙ c.loop-names-test.true in
+    let inside = is_at_lt _ _ _ here in
+    let starts =
+    more_starts terms bit_and_assoc c.loop-names.invariant here c.factor-more.ensures
+    c.both.ensures c.in-Set-both.is in
     omega arith
 
 pub term-loop-names-preserved : goal.term-loop-names-preserved
 term-loop-names-preserved t c =
-    joins_more terms c.loop-names.invariant (sym c.is_at.ensures ∙ c.loop-names-test.true)
-    c.factor-in-loop-names.ensures c.in-Set-factor.is
+    more_set terms bit_and_assoc c.loop-names.invariant
+    (sym c.is_at.ensures ∙ c.loop-names-test.true) c.factor-more.ensures c.both.ensures
+    c.in-Set-both.is
 
 pub term-returns : goal.term-returns
 term-returns t c = c.loop-names.invariant.stop (sym c.is_at.ensures ∙ c.loop-names-test.false)
