@@ -150,14 +150,11 @@ fn next_tick(lent: bool, table: Table, run: Run, letter: u8) -> Run {
 // does.
 pub(crate) fn by_ticks(lent: bool, table: Table, watch: Watch, trace: &[u8]) -> Run {
     let mut run = tested(lent, table, watch);
-    let mut i: usize = 0;
-    while i < trace.len() {
-        run = next_tick(lent, table, run, trace[i]);
-        let outcome = run.outcome;
-        let Outcome::Accepted = outcome else {
+    for letter in trace {
+        run = next_tick(lent, table, run, *letter);
+        let Outcome::Accepted = run.outcome else {
             return stopped(run, watch);
         };
-        i += 1;
     }
     run
 }
