@@ -7,6 +7,7 @@ use std::{env, fs, io};
 use table::{Name, Outcome, Refusal, Row, Table};
 
 // The letters up to a 0.
+#[tactic(auto, using(text::proofs::Splits::front_length))]
 fn print_name(rt: &impl Print, name: Name) -> io::Result<()> {
     print!(rt; " ")?;
     let n = text::find(&name.chars, 0);

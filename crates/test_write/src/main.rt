@@ -31,14 +31,7 @@ fn write_lent(table: Table, lent: usize) -> Call
 
 // Whether all bytes from a place on are marks.
 fn unchanged(bytes: [u8; ROOM], from: usize) -> bool {
-    let mut i = from;
-    while i < ROOM {
-        if bytes[i] != MARK {
-            return false;
-        }
-        i += 1;
-    }
-    true
+    bytes.iter().skip(from).all(|byte| *byte == MARK)
 }
 
 fn print_outcome(rt: &impl Print, outcome: Outcome) -> io::Result<()> {
