@@ -51,11 +51,17 @@ right_of : (rows : List Row) (room : ℕ)
 right_of rows room =
     judge_right (table_system 2 rows) room (table_lawful 2 rows) same_phases (phases_decided 2 rows)
 
-alone_answers : judge (table_system 2 (P ∷ [])) same_phases 8 ≡ sound 2
+alone_answers : judge (table_system 2 (P ∷ [])) same_phases 2 ≡ sound 2
 unfolding judge verdict_from lost_within breaks_in pass_below explore visit enter has same_phases
     same_phase kind_of elapsed tick step_row start_check trigger_check delay_check action_check bit_at set_of
     some is_broken
 alone_answers = refl
+
+alone_at_eight : judge (table_system 2 (P ∷ [])) same_phases 8 ≡ sound 2
+unfolding judge verdict_from lost_within breaks_in pass_below explore visit enter has same_phases
+    same_phase kind_of elapsed tick step_row start_check trigger_check delay_check action_check bit_at set_of
+    some is_broken
+alone_at_eight = refl
 
 alone_crowded : judge (table_system 2 (P ∷ [])) same_phases 1 ≡ too_many
 unfolding judge verdict_from lost_within breaks_in pass_below explore visit enter has same_phases
@@ -86,9 +92,9 @@ module _ (lent : Lent) where
       × (search_answer alone lent ≡ record { found = sound_found 2 no_rows; lent = held })
   alone_sound room = (
     with_entries alone lent,
-    entries_entered alone lent 2 (sound_fit (P ∷ []) 2 0 alone_answers alone_right alone lent passes
+    entries_entered alone lent 2 (sound_fit (P ∷ []) 2 0 alone_at_eight alone_right alone lent passes
         read.signals read.rows_are room),
-    sound_is (P ∷ []) 2 0 alone_answers alone_right alone lent passes read.signals
+    sound_is (P ∷ []) 2 0 alone_at_eight alone_right alone lent passes read.signals
         read.rows_are room,
   )
 

@@ -129,6 +129,10 @@ module _ (bytes : List ℕ) (t : Table) (f : HasRows bytes t) where
   abbrev known : List Name
   known = map name_of f.file.names
 
+  names_are_valid : names_valid s (names_from f.file.names) ≡ true
+  names_are_valid =
+      names_from_valid f.file.names f.header.has_names.signals.named f.header.differ
+
   rows_are_valid : rows_valid s f.rows ≡ true
   unfolding rows_valid
   rows_are_valid =
@@ -139,9 +143,7 @@ module _ (bytes : List ℕ) (t : Table) (f : HasRows bytes t) where
   lines_valid : table_valid t ≡ true
   lines_valid =
       rw f.table_is
-      (table_from_valid s (names_from f.file.names) f.rows rows_are_valid
-      (names_from_valid f.file.names f.header.has_names.signals.named
-      f.header.differ))
+      (table_from_valid s (names_from f.file.names) f.rows rows_are_valid names_are_valid)
 
 pub file_valid : (bytes : List ℕ) (t : Table) → IsFile bytes t → table_valid t ≡ true
 file_valid bytes t (of_lines f) = lines_valid bytes t f
