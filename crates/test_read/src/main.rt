@@ -2,8 +2,10 @@
 // the table.
 #![tactic(auto)]
 
+use input::Input;
+use std::fs::File;
 use std::rt::Files;
-use std::{env, fs, io};
+use std::{env, io};
 use table::{Name, Outcome, Refusal, Row, Table};
 
 // The letters up to a 0.
@@ -71,11 +73,15 @@ fn show(rt: &impl Print, bytes: &[u8]) -> io::Result<()> {
     }
 }
 
-fn show_file(rt: &(impl Print + Files + Alloc), name: &str) -> io::Result<()> {
+fn show_file(rt: &(impl Print + Files), name: &str) -> io::Result<()> {
     print!(rt; "{name}: ")?;
-    match fs::read(rt, name) {
-        Ok(bytes) => show(rt, &bytes),
-        Err(_) => println!(rt; "no such file"),
+    let Ok(mut file) = File::open(rt, name) else {
+        return println!(rt; "no such file");
+    };
+    let mut buffer = [0u8; 5000];
+    match input::read_all(&mut file, &mut buffer) {
+        Input::Read(n) => show(rt, &buffer[..n]),
+        Input::Failed => show(rt, b""),
     }
 }
 

@@ -4,8 +4,12 @@
 // difference is noticed.
 #![tactic(auto)]
 
+ghost use Rattle.std.specs.Prelude.{◌≡◌, ◌≤◌, length, take};
+
+use input::Input;
+use std::fs::File;
 use std::rt::{Files, Runtime};
-use std::{env, fs, io};
+use std::{env, io};
 
 // No report and no totals are longer.
 const MOST_READ: usize = 5000;
@@ -13,9 +17,18 @@ const MOST_READ: usize = 5000;
 // No written file is longer.
 const MOST_BYTES: usize = 4096;
 
-// The bytes of a file; none if it cannot be read.
-fn read_file<R: Files + Alloc>(rt: &R, name: &str) -> Vec<u8, R::A> {
-    fs::read(rt, name).unwrap_or(Vec::new(rt.alloc()))
+// Reads the file of this name: how many bytes it has, and 0 if it cannot be read.
+fn read_file(rt: &impl Files, name: &str, file: &mut [u8]) -> usize
+    ensures within { result ≤ length file.new }
+    ensures counts { result ≡ length (take result file.new) }
+{
+    let Ok(mut opened) = File::open(rt, name) else {
+        return 0;
+    };
+    match input::read_all(&mut opened, file) {
+        Input::Read(n) => n,
+        Input::Failed => 0,
+    }
 }
 
 // Prints the first word if a text is the one stored, and else the other.
@@ -90,12 +103,22 @@ fn check_files(
     totals: &str,
     written: &str,
 ) -> io::Result<()> {
-    let file = read_file(rt, table);
-    let its_report = read_file(rt, report);
-    let its_totals = read_file(rt, totals);
-    let its_file = read_file(rt, written);
+    let mut file = [0u8; MOST_READ];
+    let mut its_report = [0u8; MOST_READ];
+    let mut its_totals = [0u8; MOST_READ];
+    let mut its_file = [0u8; MOST_READ];
+    let length = read_file(rt, table, &mut file);
+    let end = read_file(rt, report, &mut its_report);
+    let last = read_file(rt, totals, &mut its_totals);
+    let size = read_file(rt, written, &mut its_file);
     print!(rt; "{table}")?;
-    check_table(rt, &file, &its_report, &its_totals, &its_file)
+    check_table(
+        rt,
+        &file[..length],
+        &its_report[..end],
+        &its_totals[..last],
+        &its_file[..size],
+    )
 }
 
 fn main(rt: HostRuntime) -> io::Result<()> {

@@ -13,13 +13,15 @@ mod print;
 mod run;
 
 use indexes::show_indexes;
+use input::Input;
 use long::show_long;
 use never::show_never;
 use pressed::show_pressed;
 use print::{print_found, print_part, print_trace};
 use run::{ALL, ANSWER, LOST, TRACE, alike, run};
+use std::fs::File;
+use std::io;
 use std::rt::{Files, Runtime};
-use std::{fs, io};
 use table::{Row, Table};
 
 // One case: the sizes of states, lost numbers and the trace buffer. Prints what the search answers,
@@ -37,14 +39,17 @@ fn show(rt: &impl Print, name: &str, table: Table, a: usize, d: usize, t: usize)
 }
 
 // The table of a file; the empty table if the reader refuses the file.
-fn table_in(rt: &(impl Print + Files + Alloc), name: &str) -> io::Result<Table> {
-    match fs::read(rt, name) {
-        Ok(bytes) => Ok(reader::read(&bytes).table),
-        Err(_) => {
-            print!(rt; "no such file: ")?;
-            Ok(reader::empty())
-        }
-    }
+fn table_in(rt: &(impl Print + Files), name: &str) -> io::Result<Table> {
+    let Ok(mut file) = File::open(rt, name) else {
+        print!(rt; "no such file: ")?;
+        return Ok(reader::empty());
+    };
+    let mut buffer = [0u8; 5000];
+    let bytes: &[u8] = match input::read_all(&mut file, &mut buffer) {
+        Input::Read(n) => &buffer[..n],
+        Input::Failed => b"",
+    };
+    Ok(reader::read(bytes).table)
 }
 
 fn show_file(rt: &impl Runtime, name: &str, a: usize, d: usize, t: usize) -> io::Result<()> {
