@@ -38,7 +38,7 @@ pub const AEE: usize = 5;
 pub const FIELDS: usize = 12;
 
 // A row: its six conditions as sets of letters, and the bounds of trigger, delay and action.
-#[derive(Clone, Copy)]
+#[derive(Clone, Copy, Debug, PartialEq, Eq)]
 pub struct Row {
     pub sets: [u64; CONDITIONS],
     pub tmin: u8,
@@ -50,13 +50,20 @@ pub struct Row {
 }
 
 // A signal's name: its letters a-z, then zeros.
-#[derive(Clone, Copy)]
+#[derive(Clone, Copy, Debug, PartialEq, Eq)]
 pub struct Name {
     pub chars: [u8; NAME_CHARS],
 }
 
+// The signals of a table: the first `count` names are used.
+#[derive(Clone, Copy, Debug, PartialEq, Eq)]
+pub struct Signals {
+    pub count: u8,
+    pub names: [Name; MOST_SIGNALS],
+}
+
 // A table value. The first `signals` names and the first `count` rows are used; the others are 0.
-#[derive(Clone, Copy)]
+#[derive(Clone, Copy, Debug, PartialEq, Eq)]
 pub struct Table {
     pub signals: u8,
     pub names: [Name; MOST_SIGNALS],
@@ -65,18 +72,14 @@ pub struct Table {
 }
 
 // Why a file or a call is turned down: document 01's number, and the line that it names or 0.
-#[derive(Clone, Copy)]
+#[derive(Clone, Copy, Debug, PartialEq, Eq)]
 pub struct Refusal {
     pub number: u8,
     pub line: u8,
 }
 
 // Whether a file or a call was taken.
-#[derive(Clone, Copy)]
-pub enum Outcome {
-    Accepted,
-    Refused(Refusal),
-}
+pub type Outcome = Result<(), Refusal>;
 
 // Whether a file can have so many signals and so many rows.
 pub fn counts_allowed(signals: u8, count: usize) -> bool

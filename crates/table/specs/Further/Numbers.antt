@@ -1,12 +1,11 @@
 -- Number and line of an outcome. What was accepted has neither: both are 0.
-use Rattle.std.specs.Prelude.{ℕ}
-use Rattle.table.specs.declared.Outcome.{Outcome}
-use Rattle.table.specs.declared.Outcome.TheVariants.{Accepted, Refused}
+use Rattle.std.specs.Prelude.{ℕ, Ok, Err}
+use Rattle.table.specs.Refusal.{Outcome}
 
 abbrev pub number_of : Outcome → ℕ
-number_of Accepted = 0
-number_of (Refused refusal) = refusal.number
+number_of (Ok _) = 0
+number_of (Err refusal) = refusal.number
 
 abbrev pub line_of : Outcome → ℕ
-line_of Accepted = 0
-line_of (Refused refusal) = refusal.line
+line_of (Ok _) = 0
+line_of (Err refusal) = refusal.line
