@@ -61,7 +61,7 @@ pub fn refused(number: u8, watch: Watch) -> Ticked
 {
     let none = step::no_events();
     let reply = Reply {
-        outcome: Outcome::Refused(Refusal { number, line: 0 }),
+        outcome: Err(Refusal { number, line: 0 }),
         events: [none; MOST_ROWS],
     };
     Ticked { reply, watch }
@@ -160,7 +160,7 @@ pub fn finish(pass: Pass, watch: Watch) -> Ticked
         return refused(19, watch);
     }
     let reply = Reply {
-        outcome: Outcome::Accepted,
+        outcome: Ok(()),
         events,
     };
     Ticked {

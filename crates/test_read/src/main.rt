@@ -61,8 +61,8 @@ fn is_empty(table: Table) -> bool {
 fn show(rt: &impl Print, bytes: &[u8]) -> io::Result<()> {
     let read = reader::read(bytes);
     match read.outcome {
-        Outcome::Accepted => print_table(rt, read.table),
-        Outcome::Refused(Refusal { number, line }) => {
+        Ok(()) => print_table(rt, read.table),
+        Err(Refusal { number, line }) => {
             let empty = if is_empty(read.table) {
                 "empty"
             } else {

@@ -108,7 +108,7 @@ pub fn play(table: Table, watch: Watch, trace: &[u8]) -> Played
     let tested = tick_table(table, watch, 0);
     let reply = tested.reply;
     let outcome = reply.outcome;
-    let Outcome::Accepted = outcome else {
+    let Ok(()) = outcome else {
         return stopped(outcome, watch);
     };
     let mut last = watch;
@@ -118,7 +118,7 @@ pub fn play(table: Table, watch: Watch, trace: &[u8]) -> Played
         let ticked = tick_table(table, last, trace[i]);
         let reply = ticked.reply;
         let outcome = reply.outcome;
-        let Outcome::Accepted = outcome else {
+        let Ok(()) = outcome else {
             return stopped(outcome, watch);
         };
         let events = reply.events;
@@ -128,7 +128,7 @@ pub fn play(table: Table, watch: Watch, trace: &[u8]) -> Played
         i += 1;
     }
     Played {
-        outcome: Outcome::Accepted,
+        outcome: Ok(()),
         watch: last,
         counts,
     }

@@ -17,7 +17,7 @@ returns-in_default c =
 pub loop-i-init : goal.loop-i-init
 loop-i-init c =
     let answer = ap (λ (t : Ticked). t.reply.outcome) c.tick_table-tested.ensures in
-    rw c.none-counts.ensures (playing_starts _ _ _ (sym answer ∙ c.in-Accepted.is))
+    rw c.none-counts.ensures (playing_starts _ _ _ (sym answer ∙ c.in-Ok.is))
 
 pub returns-in_default-outcome : goal.returns-in_default-outcome
 returns-in_default-outcome c =
@@ -39,7 +39,7 @@ loop-i-preserved c =
     let head = c.loop-i in
     rw (c.added-more.ensures, c.tick_table-ticked.ensures)
     (playing_next _ _ _ head.last head.counts head.i head.invariant c.loop-i-test.true
-    (sym answer ∙ c.in-Accepted-outcome.is))
+    (sym answer ∙ c.in-Ok-outcome.is))
 
 pub returns : goal.returns
 returns c =
