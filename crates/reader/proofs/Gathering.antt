@@ -12,7 +12,7 @@ use Rattle.letters.proofs.Filling.{Filled, filled_all}
 use Rattle.table.specs.Limits.{most_rows}
 use Rattle.table.specs.Row.{zero_row}
 use Rattle.table.specs.Valid.{table_from}
-use Rattle.std.specs.Prelude.{Ok, Err}
+use Rattle.std.specs.Prelude.{Ok}
 use Rattle.table.specs.declared.Name.{Name}
 use Rattle.table.specs.declared.Row.{Row}
 use Rattle.text.specs.Lines.{LF}

@@ -2,7 +2,7 @@
 use Rattle.std.specs.Prelude.{ℕ, []}
 use Rattle.table.specs.Refusal.{refused_at}
 use Rattle.table.specs.Valid.{table_from}
-use Rattle.std.specs.Prelude.{Ok, Err}
+use Rattle.std.specs.Prelude.{Ok}
 use Rattle.table.specs.declared.Table.{Table}
 use Rattle.header.specs.Header.{names_from}
 use Rattle.reader.specs.declared.Reading.{Reading}

@@ -7,7 +7,7 @@ use mathlib.Core.Path.{◌≡◌, sym, ap, ap₂, ◌∙◌}
 use lib.ListN.{length-map, length, take, drop, length-drop}
 use Rattle.letters.specs.Letter.{width}
 use Rattle.table.specs.declared.Name.{Name}
-use Rattle.std.specs.Prelude.{Ok, Err}
+use Rattle.std.specs.Prelude.{Ok}
 use Rattle.table.specs.declared.Row.{Row}
 use Rattle.text.specs.Inner.Cut.{front}
 use Rattle.text.specs.Lines.{LF}
