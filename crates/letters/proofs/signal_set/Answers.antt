@@ -23,9 +23,9 @@ loop-l-preserved c =
     let l = c.loop-l.l in
     let more = one_more l c.loop-l.set (λ i. signal_on i c.args.k) in
     elim c.if-contains.branch [
-      then-contains w ↦
+      | then-contains w ↦
           w.set-is ∙ rw (one_shifted l (omega arith))
           (omega (arith, more true (sym c.contains.ensures ∙ w.if-contains.true) c.loop-l.invariant))
-    | else-contains w ↦
+      | else-contains w ↦
           w.set-is ∙ omega (arith, more false (sym c.contains.ensures ∙ w.if-contains.false) c.loop-l.invariant)
     ]
