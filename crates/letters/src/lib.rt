@@ -103,6 +103,7 @@ pub fn others(signals: u8, set: u64) -> u64
 }
 
 // The letters of a set that are not in another.
+#[tactic(auto, using(crate::proofs::Sets::without_is))]
 pub fn without(set: u64, off: u64) -> u64
     ensures { result ≡ without set off }
 {
@@ -110,6 +111,7 @@ pub fn without(set: u64, off: u64) -> u64
 }
 
 // The least letter of a set; `SET_BITS` if it has none.
+#[tactic(auto, using(crate::proofs::Lowest::zeros_least))]
 pub fn least(set: u64) -> u8
     ensures { result ≡ least_in set }
 {
