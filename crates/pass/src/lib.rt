@@ -6,7 +6,7 @@
 // pass is a value, so that rows that are lent and rows of a table value go the same way.
 #![tactic(auto)]
 
-ghost use Rattle.std.specs.Prelude.{◌≡◌, take, drop};
+ghost use Rattle.std.specs.Prelude.{◌≡◌, drop};
 ghost use Rattle.letters.specs.Lists.{every};
 ghost use Rattle.step.specs.Valid.{is_waiting};
 ghost use Rattle.pass.specs.Watch.{phases_of};
