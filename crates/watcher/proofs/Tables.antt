@@ -17,7 +17,7 @@ use Rattle.table.specs.declared.Table.{Table}
 use Rattle.table.specs.Refusal.{refused_at}
 use Rattle.table.specs.Refusal.{Outcome}
 use Rattle.table.specs.declared.Refusal.{Refusal}
-use Rattle.table.proofs.Laws.{table_valid_rows, table_valid_count}
+use Rattle.table.proofs.Laws.{table_valid_rows}
 use Rattle.traces.specs.System.{System}
 use Rattle.traces.specs.Trace.{run}
 use Rattle.traces.proofs.Runs.{run_snoc, not_both}
@@ -37,29 +37,15 @@ use Rattle.pass.specs.Answer.{first_number, refused_with, answered, moved_on, ti
 use Rattle.watcher.specs.Inner.Counts.{AllRoom, add_all, counts_over}
 use Rattle.watcher.specs.Inner.Tables.{table_tick, zero_counts, stopped_by, played_over}
 use Rattle.watcher.specs.Inner.Tables.{table_play}
-use Rattle.pass.specs.Inner.Pass.{begun, pass_over, finished}
 use Rattle.watcher.proofs.Counting.{counts_few, counts_snoc}
-use Rattle.pass.proofs.Passes.{pass_answer}
-use Rattle.table.specs.Limits.{most_rows}
 use Rattle.pass.proofs.Records.{watch_phases, phases_watch}
 
-pub rows_length : (table : Table) → length table.rows ≡ most_rows → table_valid table ≡ true
-    → length (rows_of table) ≡ table.count
-rows_length table all fits = length-take-le table.count table.rows
-    (omega (arith, table_valid_count table fits))
-
--- What a pass over the rows of a table value gives.
-pub table_answer : (table : Table) (watch : Watch) (letter : ℕ) → length table.rows ≡ most_rows
-    → length watch.slots ≡ most_rows
-    → table_valid table ≡ true
-    → finished (pass_over (rows_of table) 0 (begun table.signals table.count watch letter))
-    watch ≡ table_tick table watch letter
+-- A tick of the rows of a table value that number 17 lets by.
+pub table_answer : (table : Table) (watch : Watch) (letter : ℕ) → table_valid table ≡ true
+    → tick_answer table.signals (rows_of table) watch letter ≡ table_tick table watch letter
 unfolding tick_answer table_tick
-table_answer table watch letter rows8 slots8 fits =
-    ap (λ (n : ℕ). finished (pass_over (rows_of table) 0 (begun table.signals n watch letter))
-    watch) (sym (rows_length table rows8 fits))
-    ∙ pass_answer table.signals (rows_of table) watch letter slots8
-    ∙ ap (λ (b : Bool). answered (first_number b (phases_valid (rows_of table) (phases_of watch))
+table_answer table watch letter fits =
+    ap (λ (b : Bool). answered (first_number b (phases_valid (rows_of table) (phases_of watch))
     (letter_valid table.signals letter))
     (moved_on (rows_of table) letter watch) (refused_with watch))
     (table_valid_rows table fits ∙ sym fits)
@@ -141,10 +127,10 @@ module _ (table : Table) (watch : Watch) (trace : List ℕ) where
       (moved_on (rows_of table) 0 watch)
       (played_over table watch trace) watch r refl (zero_fits table.signals) h
 
-  pub playing_starts : (table_tick table watch 0).reply.outcome ≡ Ok tt
+  starts : (table_tick table watch 0).reply.outcome ≡ Ok tt
       → Playing table watch trace watch zero_counts 0
   unfolding table_tick every run trace_events counts_over
-  playing_starts h =
+  starts h =
       let passed = accepts (table_valid table) (phases_valid (rows_of table) (phases_of watch))
       (letter_valid table.signals 0) _ watch h in
       record {
@@ -154,6 +140,10 @@ module _ (table : Table) (watch : Watch) (trace : List ℕ) where
         moved = sym (watch_phases watch);
         counted = refl;
       }
+
+  pub playing_starts : {tested : Ticked} → tested ≡ table_tick table watch 0
+      → tested.reply.outcome ≡ Ok tt → Playing table watch trace watch zero_counts 0
+  playing_starts is taken = starts (ap (λ (t : Ticked). t.reply.outcome) (sym is) ∙ taken)
 
   module _ (last : Watch) (counts : List Counts) (i : ℕ)
       (p : Playing table watch trace last counts i) where
@@ -182,11 +172,11 @@ module _ (table : Table) (watch : Watch) (trace : List ℕ) where
       abbrev ticked : Ticked
       ticked = table_tick table last l
 
-      pub playing_next : ticked.reply.outcome ≡ Ok tt
+      goes_on : ticked.reply.outcome ≡ Ok tt
           → Playing table watch trace ticked.watch (add_all counts ticked.reply.events)
           (i + 1)
       unfolding table_tick answered every
-      playing_next e =
+      goes_on e =
           let done = moved_on (rows_of table) l last in
           let passed = accepts (table_valid table) (phases_valid (rows_of table) (phases_of last))
           (letter_valid table.signals l) done last e in
@@ -210,6 +200,12 @@ module _ (table : Table) (watch : Watch) (trace : List ℕ) where
                 ∙ ap (λ (w : List ℕ). counts_over zero_counts (trace_events (rows_of table)
                 (phases_of watch) w)) (sym more);
           })
+
+      pub playing_next : {next : Ticked} {all : List Counts} → next ≡ ticked
+          → next.reply.outcome ≡ Ok tt → all ≡ add_all counts next.reply.events
+          → Playing table watch trace next.watch all (i + 1)
+      playing_next is taken added =
+          rw (added, is) (goes_on (ap (λ (t : Ticked). t.reply.outcome) (sym is) ∙ taken))
 
       pub playing_stops : (r : Refusal) → ticked.reply.outcome ≡ Err r
           → stopped_by (Err r) watch ≡ table_play table watch trace
