@@ -36,7 +36,7 @@ pub(crate) fn add(totals: &mut [Totals; MOST_ROWS], events: [Events; MOST_ROWS],
     ensures { AllTicked totals.old events watch totals.new }
 {
     for (i, row) in totals.iter_mut().enumerate() {
-        *row = with_tick(*row, events[i], watch.slots[i].phase);
+        *row = with_tick(*row, events[i], watch.slots[i]);
     }
 }
 
