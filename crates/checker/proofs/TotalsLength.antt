@@ -7,7 +7,7 @@ use mathlib.Core.Path.{◌≡◌, ap}
 use lib.ListN.{length}
 use Rattle.table.specs.Valid.{table_valid}
 use Rattle.table.specs.Further.Numbers.{number_of, line_of}
-use Rattle.std.specs.Prelude.{Ok, Err}
+use Rattle.std.specs.Prelude.{Err}
 use Rattle.table.specs.declared.Table.{Table}
 use Rattle.table.proofs.Laws.{table_valid_count}
 use Rattle.reader.specs.Inner.File.{read_answer}

@@ -10,7 +10,7 @@ use lib.ListN.{length, get_or}
 use Rattle.letters.specs.Letter.{bit}
 use Rattle.table.specs.Row.{no_row}
 use Rattle.table.specs.Valid.{table_valid, rows_of}
-use Rattle.std.specs.Prelude.{Ok, Err}
+use Rattle.std.specs.Prelude.{Ok}
 use Rattle.table.specs.declared.Row.{Row}
 use Rattle.table.specs.declared.Table.{Table}
 use Rattle.table.proofs.Laws.{table_valid_rows}

@@ -1,5 +1,5 @@
 -- What is promised of the burn-in, each with its proof. Assumes nothing.
-use Prim.Native.Nat.{ℕ, suc, ◌+◌, ◌<◌, ◌≤◌}
+use Prim.Native.Nat.{ℕ, suc, ◌<◌, ◌≤◌}
 use mathlib.Core.Bool.{true, false}
 use mathlib.Core.List.{List, [], ◌∷◌, ◌++◌, map}
 use mathlib.Core.Logic.{◌↔◌}
@@ -9,7 +9,7 @@ use Rattle.letters.specs.Letter.{letters, bit}
 use Rattle.table.specs.Limits.{most_bytes, most_rows}
 use Rattle.table.specs.Valid.{table_valid, rows_valid, rows_of}
 use Rattle.table.specs.Further.Numbers.{number_of, line_of}
-use Rattle.std.specs.Prelude.{Ok, Err}
+use Rattle.std.specs.Prelude.{Ok}
 use Rattle.table.specs.declared.Row.{Row}
 use Rattle.table.specs.declared.Table.{Table}
 use Rattle.traces.specs.Trace.{AllBelow}

@@ -16,7 +16,7 @@ use Rattle.table.specs.Further.Numbers.{number_of, line_of}
 use Rattle.table.specs.Valid.{table_valid, rows_of}
 use Rattle.table.specs.declared.Row.{Row}
 use Rattle.table.specs.declared.Table.{Table}
-use Rattle.std.specs.Prelude.{Ok, Err}
+use Rattle.std.specs.Prelude.{Ok}
 use Rattle.table.proofs.Laws.{table_valid_rows, rows_valid_count}
 use Rattle.traces.specs.Trace.{AllBelow, run}
 use Rattle.step.specs.declared.Phase.{Phase}

@@ -24,7 +24,7 @@ use Rattle.step.specs.Further.Codes.{codes_valid}
 use Rattle.step.proofs.States.{codes_valid_lem, codes_phases}
 use Rattle.step.proofs.Systems.{row_lawful}
 use Rattle.traces.proofs.Runs.{broken_run}
-use Rattle.std.specs.Prelude.{Ok, Err}
+use Rattle.std.specs.Prelude.{Ok}
 use Rattle.watcher.specs.declared.Played.{Played}
 use Rattle.pass.specs.declared.Ticked.{Ticked}
 use Rattle.pass.specs.declared.Watch.{Watch}

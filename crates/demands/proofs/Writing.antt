@@ -10,7 +10,7 @@ use Rattle.table.specs.Limits.{most_bytes}
 use Rattle.table.specs.Valid.{table_valid}
 use Rattle.table.specs.Further.Numbers.{number_of, line_of}
 use Rattle.table.specs.declared.Name.{Name}
-use Rattle.std.specs.Prelude.{Ok, Err}
+use Rattle.std.specs.Prelude.{Ok}
 use Rattle.table.specs.declared.Table.{Table}
 use Rattle.conditions.specs.Judge.{IsCondition}
 use Rattle.reader.specs.Grammar.{IsFile}

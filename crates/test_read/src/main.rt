@@ -6,7 +6,7 @@ use input::Input;
 use std::fs::File;
 use std::rt::Files;
 use std::{env, io};
-use table::{Name, Outcome, Refusal, Row, Table};
+use table::{Name, Refusal, Row, Table};
 
 // The letters up to a 0.
 #[tactic(auto, using(text::proofs::Splits::front_length))]

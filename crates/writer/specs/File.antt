@@ -8,7 +8,7 @@ use Rattle.table.specs.Row.{tse, tc, tee, ase, ac, aee}
 use Rattle.table.specs.Valid.{rows_of, table_valid}
 use Rattle.table.specs.declared.Name.{Name}
 use Rattle.table.specs.Refusal.{Outcome}
-use Rattle.std.specs.Prelude.{Ok, Err}
+use Rattle.std.specs.Prelude.{Ok}
 use Rattle.table.specs.declared.Row.{Row}
 use Rattle.table.specs.declared.Table.{Table}
 use Rattle.text.specs.Bounds.{decimal}

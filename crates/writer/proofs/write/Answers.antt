@@ -6,7 +6,7 @@ use mathlib.Core.List.{List}
 use mathlib.Core.Path.{◌≡◌, sym, ◌∙◌}
 use lib.ListN.{length}
 use Rattle.table.specs.Limits.{most_bytes}
-use Rattle.std.specs.Prelude.{Ok, Err}
+use Rattle.std.specs.Prelude.{Ok}
 use Rattle.put.proofs.Puts.{puts_written}
 use Rattle.writer.specs.declared.Written.{Written}
 use Rattle.writer.specs.Inner.Writing.{not_written}
