@@ -16,16 +16,10 @@ ghost use Rattle.pass.specs.Inner.Pass.{begun, row_taken, pass_over, finished};
 use step::{Events, Phase};
 use table::{MOST_ROWS, Outcome, Refusal, Row};
 
-// A row's place in the record.
-#[derive(Clone, Copy, Debug, PartialEq, Eq)]
-pub struct Slot {
-    pub phase: Phase,
-}
-
 // The watcher's state: the phase of each row, in file order. An unused row is waiting.
 #[derive(Clone, Copy, Debug, PartialEq, Eq)]
 pub struct Watch {
-    pub slots: [Slot; MOST_ROWS],
+    pub slots: [Phase; MOST_ROWS],
 }
 
 // What a tick says: whether it was taken, and what happened to each row, which is nothing if it was
@@ -75,7 +69,7 @@ fn rest_waiting(watch: Watch, n: usize) -> bool
         .slots
         .iter()
         .skip(n)
-        .all(|slot| phases::is_waiting(slot.phase))
+        .all(|phase| phases::is_waiting(*phase))
 }
 
 impl Pass {
@@ -102,11 +96,11 @@ impl Pass {
         if MOST_ROWS <= i {
             return self;
         }
-        let phase = self.watch.slots[i].phase;
+        let phase = self.watch.slots[i];
         let stepped = step::step_row(row, self.letter, phase);
         self.rules &= table::rows::row_valid(self.signals, row);
         self.phases &= phases::phase_valid(row, phase);
-        self.watch.slots[i].phase = stepped.phase;
+        self.watch.slots[i] = stepped.phase;
         self.events[i] = stepped.events;
         self
     }

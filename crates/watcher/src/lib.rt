@@ -9,7 +9,7 @@ ghost use Rattle.pass.specs.Watch.{start_watch};
 ghost use Rattle.pass.specs.Answer.{tick_answer};
 ghost use Rattle.watcher.specs.Inner.Tables.{table_tick, table_play, stopped_by};
 
-use pass::{Pass, Reply, Slot, Ticked, Watch};
+use pass::{Pass, Reply, Ticked, Watch};
 use step::Phase;
 use table::{MOST_ROWS, Outcome, Refusal, Row, Table};
 
@@ -37,11 +37,8 @@ pub struct Played {
 pub fn start() -> Watch
     ensures { result ≡ start_watch }
 {
-    let slot = Slot {
-        phase: Phase::Waiting,
-    };
     Watch {
-        slots: [slot; MOST_ROWS],
+        slots: [Phase::Waiting; MOST_ROWS],
     }
 }
 
