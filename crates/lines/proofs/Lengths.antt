@@ -11,7 +11,7 @@ use Rattle.text.specs.Lines.{LF, ended}
 use Rattle.text.proofs.Decimals.{decimal_length}
 use Rattle.text.proofs.Joins.{ended_append}
 use Rattle.put.specs.Inner.Puts.{last_place}
-use Rattle.put.proofs.Pages.{page_at, page_now, added_name}
+use Rattle.put.proofs.Pages.{whole_page}
 use Rattle.lines.specs.Line.{refused_line, refused_text, signal_values, tick_line, tick_lines}
 use Rattle.lines.specs.Line.{row_numbers, spaced, spaced_or_dash}
 
@@ -46,7 +46,7 @@ pub refused_few : (m n : ℕ) → m < 256 → n < 256
 unfolding ended
 refused_few m n low-m low-n = omega (arith, refused_length m n (omega arith) (omega arith))
 
-pub ruleset refusals = (page_at, page_now, added_name, refused_few)
+pub ruleset refusals = (whole_page, refused_few)
 
 values_length : (n k letter : ℕ) → length (signal_values n k letter) ≡ n
 unfolding signal_values

@@ -1,6 +1,6 @@
 -- Bytes put on a page, one after the other. Assumes nothing.
 use Rattle.std.proofs.Common.{◌≡◌, ℕ, suc, ◌+◌, ◌<◌, ◌≤◌, min, List, [], ◌∷◌, ◌++◌, length, take, get_or, set}
-use Rattle.std.proofs.Common.{refl, sym, ap, ◌∙◌, arith}
+use Rattle.std.proofs.Common.{refl, sym, ap, ◌∙◌, arith, append_assoc}
 use Rattle.std.specs.Borrow.{MutBor}
 use Rattle.std.proofs.Math.ListN.{length-set}
 use Rattle.std.proofs.Math.Seq.{set_out}
@@ -8,6 +8,8 @@ use Rattle.std.proofs.lemmas.List.{take_more}
 use Rattle.std.proofs.lemmas.List.Edits.{sets}
 use native.Mathlib.Decide.{dec_lt}
 use Rattle.text.proofs.Decimals.{decimal_few, decimal_more}
+use Rattle.text.proofs.Joins.{ended_append}
+use Rattle.text.specs.Lines.{LF, ended}
 use Rattle.verdict.specs.Buffer.{written}
 use Rattle.put.specs.declared.Page.{Page}
 use Rattle.put.specs.Inner.Page.{added, blank, with_byte}
@@ -91,7 +93,40 @@ module _ (buffer : MutBor (List ℕ)) (text : List ℕ) (few : length text ≤ l
   pub page_now : (added (blank buffer) text).out.now ≡ written text buffer.now
   page_now = (from_place (blank buffer) text (omega arith)).1 ∙ sets_front text buffer.now
 
+-- Lines, each with its end.
+module _ (p : Page) where
+  pub lines_none : added p (ended []) ≡ p
+  unfolding added ended
+  lines_none = refl
+
+  pub lines_more : (line : List ℕ) (more : List (List ℕ))
+      → added p (ended (line ∷ more)) ≡ added (added p (line ++ LF ∷ [])) (ended more)
+  unfolding ended
+  lines_more line more =
+      rw (← append_assoc line (LF ∷ []) (ended more)) (added_append p (line ++ LF ∷ []) (ended more))
+
+  pub lines_append : (xs ys : List (List ℕ))
+      → added p (ended (xs ++ ys)) ≡ added (added p (ended xs)) (ended ys)
+  lines_append xs ys = rw (ended_append xs ys) (added_append p (ended xs) (ended ys))
+
+-- A line alone; a line, and then others; and lines, and then others.
+pub last_line : (p : Page) {q : Page} (line : List ℕ) → q ≡ added p (line ++ LF ∷ [])
+    → q ≡ added p (ended (line ∷ []))
+unfolding ended
+last_line p line put = put
+
+module _ (p : Page) {q r : Page} where
+  pub line_then : (line : List ℕ) (more : List (List ℕ)) → q ≡ added p (line ++ LF ∷ [])
+      → r ≡ added q (ended more) → r ≡ added p (ended (line ∷ more))
+  line_then line more first others = rw (lines_more p line more, ← first) others
+
+  pub lines_then : (xs ys : List (List ℕ)) → q ≡ added p (ended xs)
+      → r ≡ added q (ended ys) → r ≡ added p (ended (xs ++ ys))
+  lines_then xs ys first others = rw (lines_append p xs ys, ← first) others
+
+-- For functions that put bytes on a page; that put lines on it; and that begin a page.
 pub ruleset pages = (added_append, added_more, decimal_few, decimal_more)
 
--- Besides, what a page that began at the front holds in the end.
-pub ruleset whole_pages = (pages, page_at, page_now, added_name)
+pub ruleset page_lines = (lines_none, lines_more, lines_append)
+
+pub ruleset whole_page = (page_at, page_now, added_name)
