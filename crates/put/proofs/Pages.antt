@@ -31,6 +31,21 @@ unfolding added with_byte
 added_name p [] = refl
 added_name p (x ∷ xs) = added_name (with_byte p x) xs
 
+-- The place after them: no further on than there are bytes, and just there if it is not the last.
+pub added_le : (p : Page) (xs : List ℕ) → (added p xs).at ≤ p.at + length xs
+unfolding added with_byte
+added_le p [] = omega arith
+added_le p (x ∷ xs) = omega (arith, added_le (with_byte p x) xs)
+
+pub at_le : (p : Page) {q : Page} (xs : List ℕ) → q ≡ added p xs → q.at ≤ p.at + length xs
+at_le p xs e = rw e (added_le p xs)
+
+pub added_counted : (p : Page) (xs : List ℕ) → (added p xs).at < last_place
+    → (added p xs).at ≡ p.at + length xs
+unfolding added with_byte
+added_counted p [] h = omega arith
+added_counted p (x ∷ xs) h = omega (arith, added_counted (with_byte p x) xs h)
+
 -- Past the buffer's end nothing is stored: so a place past the last one may be taken for the last.
 sets_past : (xs buffer : List ℕ) (at : ℕ) → length buffer ≤ at → sets buffer at xs ≡ buffer
 sets_past [] buffer at h = refl
@@ -86,6 +101,10 @@ from_place p (x ∷ xs) few =
     let more = from_place (with_byte p x) xs (omega arith) in
     (omega (arith, more.0), more.1 ∙ ap (λ (k : ℕ). sets (set p.out.now p.at x) k xs) next)
 
+pub page_few : (buffer : MutBor (List ℕ)) (text : List ℕ)
+    → (added (blank buffer) text).at < last_place → length text ≤ last_place
+page_few buffer text h = omega (arith, added_counted (blank buffer) text h)
+
 module _ (buffer : MutBor (List ℕ)) (text : List ℕ) (few : length text ≤ last_place) where
   pub page_at : (added (blank buffer) text).at ≡ length text
   page_at = omega (arith, (from_place (blank buffer) text (omega arith)).0)
@@ -109,7 +128,11 @@ module _ (p : Page) where
       → added p (ended (xs ++ ys)) ≡ added (added p (ended xs)) (ended ys)
   lines_append xs ys = rw (ended_append xs ys) (added_append p (ended xs) (ended ys))
 
--- A line alone; a line, and then others; and lines, and then others.
+-- Bytes, and then more of them; a line alone; a line, and then others; lines, and then others.
+pub bytes_then : (p : Page) {q r : Page} (xs ys : List ℕ) → q ≡ added p xs → r ≡ added q ys
+    → r ≡ added p (xs ++ ys)
+bytes_then p xs ys first others = rw (added_append p xs ys, ← first) others
+
 pub last_line : (p : Page) {q : Page} (line : List ℕ) → q ≡ added p (line ++ LF ∷ [])
     → q ≡ added p (ended (line ∷ []))
 unfolding ended
@@ -129,4 +152,4 @@ pub ruleset pages = (added_append, added_more, decimal_few, decimal_more)
 
 pub ruleset page_lines = (lines_none, lines_more, lines_append)
 
-pub ruleset whole_page = (page_at, page_now, added_name)
+pub ruleset whole_page = (page_at, page_now, page_few, added_name)
