@@ -7,7 +7,7 @@ ghost use Rattle.text.specs.Lines.{LF as lineEnd, ended};
 ghost use Rattle.verdict.specs.Buffer.{written};
 ghost use Rattle.put.specs.Inner.Page.{added};
 ghost use Rattle.lines.specs.Line.{spaced};
-ghost use Rattle.totals.specs.Totals.{totals_line, totals_lines, run_lines, run_bytes};
+ghost use Rattle.totals.specs.Totals.{totals_line, totals_lines, run_bytes};
 
 use load::{Ran, Totals};
 use put::Page;
