@@ -101,6 +101,18 @@ from_place p (x ∷ xs) few =
     let more = from_place (with_byte p x) xs (omega arith) in
     (omega (arith, more.0), more.1 ∙ ap (λ (k : ℕ). sets (set p.out.now p.at x) k xs) next)
 
+-- Where a page ends that began there: no further on than there are bytes, and just there if it is
+-- not at the last place.
+module _ {begun page : Page} (buffer : MutBor (List ℕ)) (text : List ℕ) (begins : begun ≡ blank buffer)
+    (puts : page ≡ added begun text) where
+  pub page_le : page.at ≤ length text
+  page_le = rw (puts, begins) (omega (arith, added_le (blank buffer) text))
+
+  pub page_counted : page.at < last_place → page.at ≡ length text
+  page_counted h =
+      let near : (added (blank buffer) text).at < last_place = rw (puts, begins) at h in
+      rw (puts, begins) (omega (arith, added_counted (blank buffer) text near))
+
 pub page_few : (buffer : MutBor (List ℕ)) (text : List ℕ)
     → (added (blank buffer) text).at < last_place → length text ≤ last_place
 page_few buffer text h = omega (arith, added_counted (blank buffer) text h)
