@@ -213,7 +213,7 @@ fn refused(number: u8) -> Written
 // Writes a table value as a file of version 0001 from the buffer's front, and answers its length;
 // or 17, 23 or 24, in this order, and the buffer is unchanged. The file is put twice: into no
 // buffer, to know its length, and then into the lent one.
-#[tactic(auto, using(crate::proofs::Answers::answer23))]
+#[tactic(auto, using(crate::proofs::Answers::long_file))]
 pub fn write(table: Table, out: &mut [u8]) -> Written
     ensures { record {
       outcome = result.outcome;

@@ -1,11 +1,11 @@
 -- `write` meets its contract: the file put into no buffer gives its length, by which the answer is
 -- found; then it is put into the lent one. Assumes nothing.
 use Rattle.std.proofs.Common.{◌≡◌, ℕ, List, sym, ◌∙◌, arith}
-use Rattle.put.proofs.Pages.{page_le, page_counted, whole_page}
+use Rattle.put.proofs.Pages.{page_counted, whole_page}
 use Rattle.writer.specs.declared.Written.{Written}
 use Rattle.writer.specs.Inner.Writing.{not_written}
 use Rattle.writer.specs.File.{WriteCall, unwritten}
-use Rattle.writer.proofs.Answers.{is17, is23, is24, is_written, case_answer}
+use Rattle.writer.proofs.Answers.{is17, is24, is_written, case_answer}
 use Rattle.writer.proofs.write.Goals as goal
 
 -- A call that answers a number.
@@ -22,12 +22,6 @@ pub returns-then-not-valid : goal.returns-then-not-valid
 returns-then-not-valid c =
     refused_call c.refused.ensures
     (case_answer _ _ (is17 (sym c.valid.ensures ∙ c.if-not-valid.true)))
-
-pub returns-then-counted-gt-MOST_BYTES : goal.returns-then-counted-gt-MOST_BYTES
-returns-then-counted-gt-MOST_BYTES c =
-    refused_call c.refused-then-counted-gt-MOST_BYTES.ensures
-    (case_answer _ _ (is23 (sym c.valid.ensures ∙ c.if-not-valid.false)
-    (omega (arith, page_le _ _ c.new-counted.ensures c.put_file.ensures))))
 
 pub returns-then-out-counted : goal.returns-then-out-counted
 returns-then-out-counted c =
