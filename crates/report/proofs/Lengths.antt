@@ -11,6 +11,8 @@ use Rattle.verdict.specs.declared.Found.{Found}
 use Rattle.verdict.specs.declared.Found.TheVariants.{Refused, Sound, Trapped}
 use Rattle.verdict.specs.declared.Trap.{Trap}
 use Rattle.verdict.specs.Found.{Values, values_of}
+use Rattle.put.specs.Inner.Puts.{last_place}
+use Rattle.put.proofs.Pages.{whole_page}
 use Rattle.lines.specs.Line.{refused_line, tick_lines}
 use Rattle.lines.proofs.Lengths.{more_length, both_length, numbered_length, refused_length}
 use Rattle.lines.proofs.Lengths.{ticks_length, row_line_length}
@@ -87,3 +89,16 @@ module _ (rows signals ticks k most : ℕ) (buffer : List ℕ) (low : ticks < 10
         both_length sizes (trapped_line ∷ rest),
         more_length trapped_line rest,
       )
+
+-- Every report that can be asked for has far fewer bytes than there are places.
+pub report_short : (rows signals : ℕ) (trace : List ℕ) (found : Found) → signals < 256
+    → FewDigits rows 65535 (values_of found)
+    → length (report_bytes rows signals trace found) ≤ last_place
+report_short rows signals trace found low few =
+    omega (
+      arith,
+      few.rules,
+      report_length rows signals 65535 4 267 trace (omega arith) (omega arith) found few,
+    )
+
+pub ruleset whole_report = (whole_page, report_short)
