@@ -1,11 +1,8 @@
 -- The watcher's record and its list of phases. Assumes nothing.
 use Prim.Native.Nat.{ℕ}
-use mathlib.Core.Bool.{Bool, ◌&&◌}
-use mathlib.Core.List.{List, [], ◌∷◌}
-use mathlib.Core.Path.{◌≡◌, refl, ap}
-use lib.ListN.{length, get_or}
-use Rattle.letters.specs.Lists.{every}
-use Rattle.std.specs.List.{list_all}
+use mathlib.Core.List.{List}
+use mathlib.Core.Path.{◌≡◌, refl}
+use lib.ListN.{get_or}
 use Rattle.step.specs.declared.Phase.{Phase}
 use Rattle.step.specs.declared.Phase.TheVariants.{Waiting}
 use Rattle.pass.specs.declared.Watch.{Watch}
@@ -19,14 +16,5 @@ watch_phases watch = refl
 pub phases_watch : (phases : List Phase) → phases_of (watch_of phases) ≡ phases
 phases_watch phases = refl
 
-pub phases_length : (watch : Watch) → length (phases_of watch) ≡ length watch.slots
-phases_length watch = refl
-
 pub phase_at_lem : (watch : Watch) (i : ℕ) → phase_at watch i ≡ get_or (phases_of watch) i Waiting
 phase_at_lem watch i = refl
-
--- `every` is the library's `list_all`.
-pub every_all : {A : Type 0} (test : A → Bool) (xs : List A) → list_all test xs ≡ every test xs
-unfolding every
-every_all test [] = refl
-every_all test (x ∷ xs) = ap (λ (b : Bool). test x && b) (every_all test xs)

@@ -62,6 +62,7 @@ pub fn refused(number: u8, watch: Watch) -> Ticked
 }
 
 // Whether all rows from place n on wait.
+#[tactic(auto, unfolding(letters::specs::Lists::every))]
 fn rest_waiting(watch: Watch, n: usize) -> bool
     ensures { result ≡ every is_waiting (drop n (phases_of watch)) }
 {
