@@ -10,7 +10,7 @@ use Rattle.text.proofs.Decimals.{decimal_length}
 use Rattle.put.specs.Inner.Puts.{Puts}
 use Rattle.put.proofs.Puts.{puts_append}
 use Rattle.lines.specs.Line.{spaced}
-use Rattle.load.specs.declared.Totals.{Totals}
+use Rattle.load.specs.Figures.{Totals}
 use Rattle.totals.specs.Totals.{totals_line}
 use Rattle.totals.proofs.row_line.Goals as goal
 

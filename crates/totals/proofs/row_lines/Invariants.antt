@@ -4,7 +4,7 @@
 use Prim.Native.Nat.{ℕ, ◌-◌, ◌*◌, ◌≤◌}
 use mathlib.Core.List.{List}
 use Rattle.table.specs.Limits.{most_rows}
-use Rattle.load.specs.declared.Totals.{Totals}
+use Rattle.load.specs.Figures.{Totals}
 use Rattle.put.proofs.NumberedLines.{PuttingLines}
 use Rattle.totals.specs.Totals.{totals_lines}
 use Rattle.totals.proofs.row_lines.Given as goal
