@@ -38,7 +38,7 @@ use Rattle.watcher.specs.Inner.Tables.{table_tick}
 use Rattle.pass.proofs.Records.{phases_watch, phase_at_lem}
 use Rattle.pass.proofs.Starts.{start_valid, start_phase}
 use Rattle.load.specs.declared.Ran.{Ran}
-use Rattle.load.specs.declared.Totals.{Totals}
+use Rattle.load.specs.Figures.{Totals}
 use Rattle.load.specs.Load.{next_number, numbers_from, letter_of, load_of, no_totals}
 use Rattle.load.specs.Load.{totals_over}
 use Rattle.load.specs.Load.{longest_run, not_run, run_answer}

@@ -6,8 +6,8 @@ use mathlib.Core.List.{List, [], ◌∷◌, ◌++◌}
 use mathlib.Core.Path.{◌≡◌, refl, sym, ap, ◌∙◌}
 use lib.ListN.{length, get_or, take}
 use lib.Seq.{take-suc}
-use Rattle.load.specs.declared.Sums.{Sums}
-use Rattle.load.specs.declared.Totals.{Totals}
+use Rattle.load.specs.Figures.{Sums}
+use Rattle.load.specs.Figures.{Totals}
 use Rattle.load.specs.Load.{no_totals, sum_of, sums_of}
 use Rattle.load.specs.Further.Balance.{Balanced, SumsBalanced, OneMore}
 use Rattle.load.specs.Inner.Tally.{with_row, Grown}

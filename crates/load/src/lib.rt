@@ -24,27 +24,24 @@ const ADDED: u32 = 1013904223;
 // The letter is the number divided by this.
 const PART: u32 = 67108864;
 
-// What a row did: how often its trigger was realised and its action completed, whether it broke,
-// and whether it is open at the end.
+// How often triggers were realised and actions completed, and how many rows broke, and are open at
+// the end.
 #[derive(Clone, Copy, Debug, PartialEq, Eq, Default)]
-pub struct Totals {
-    pub realised: u16,
-    pub completed: u16,
-    pub breaks: u16,
-    pub pending: u16,
+pub struct Figures<N> {
+    pub realised: N,
+    pub completed: N,
+    pub breaks: N,
+    pub pending: N,
 }
 
-// The same of several rows together.
-#[derive(Clone, Copy, Debug, PartialEq, Eq, Default)]
-pub struct Sums {
-    pub realised: u32,
-    pub completed: u32,
-    pub breaks: u32,
-    pub pending: u32,
-}
+// What a row did; and the same of several rows together.
+pub type Totals = Figures<u16>;
+
+pub type Sums = Figures<u32>;
 
 // What a run gives: whether it was taken, and the totals of each row, which are 0 if it was
 // refused, and for a row that is not used.
+// Kept: an outcome beside values, of which theorems speak on refusal too (`refused_zeros`).
 #[derive(Clone, Copy, Debug, PartialEq, Eq)]
 pub struct Ran {
     pub outcome: Outcome,
@@ -69,6 +66,7 @@ pub fn letter_of(signals: u8, number: u32) -> u8
 }
 
 // The sums of the first `rows` rows, or of all if there are fewer.
+// Kept: totals and a count, as a run gives totals and its table the count of rows.
 pub fn sum(totals: [Totals; MOST_ROWS], rows: u8) -> Sums
     ensures { result ≡ sums_of (take rows totals) }
 {
@@ -90,6 +88,7 @@ pub fn refused(refusal: Refusal) -> Ran
 }
 
 // Whether a run is taken, or the number for which it is refused: 17 comes before 22.
+// Kept: numbers, by which documents, theorems and reports name a refusal.
 fn judge(valid: bool, ticks: u32) -> Result<(), u8>
     ensures { result ≡ cond valid (cond (leb ticks longest_run) (Ok tt) (Err 22)) (Err 17) }
 {

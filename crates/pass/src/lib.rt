@@ -24,6 +24,7 @@ pub struct Watch {
 
 // What a tick says: whether it was taken, and what happened to each row, which is nothing if it was
 // refused.
+// Kept: an outcome beside values, of which theorems speak on refusal too (`refused_none`).
 #[derive(Clone, Copy, Debug, PartialEq, Eq)]
 pub struct Reply {
     pub outcome: Outcome,
@@ -50,6 +51,7 @@ pub struct Pass {
 }
 
 // A refusal with a number and no line: the state is the one that was passed.
+// Kept: numbers, by which documents, theorems and reports name a refusal.
 pub fn refused(number: u8, watch: Watch) -> Ticked
     ensures { result ≡ refused_with watch number }
 {
@@ -75,6 +77,7 @@ fn rest_waiting(watch: Watch, n: usize) -> bool
 
 impl Pass {
     // Before the first of n rows: what the counts and the unused rows say.
+    // Kept: signals, state and letter apart, as the watcher's calls are lent them (document 01).
     #[tactic(auto, unfolding(crate::specs::Inner::Pass::begun))]
     pub fn begin(signals: u8, n: usize, watch: Watch, letter: u8) -> Pass
         ensures { result ≡ begun signals n watch letter }
