@@ -14,7 +14,6 @@ ghost use Rattle.checker.specs.Inner.Computed.{after_writing, writing_answer};
 
 use scratch::MOST_INDEX;
 use table::{MOST_BYTES, Table};
-use verdict::Found;
 
 // "The program lends room 4,096 and a trace buffer of as many bytes."
 const ROOM: usize = 4096;
@@ -46,7 +45,7 @@ pub fn check(
 {
     let read = reader::read(bytes);
     match read.outcome {
-        Err(refusal) => report::write(Found::Refused(refusal), 0, 0, trace, out),
+        Err(refusal) => report::write(Err(refusal), 0, 0, trace, out),
         Ok(()) => {
             let table = read.table;
             let found = search::search(table, states, lost, index, trace);

@@ -9,7 +9,7 @@ ghost use Rattle.put.specs.Inner.Page.{added};
 ghost use Rattle.report.specs.Report.{size_lines, trap_lines, list_lines, report_bytes};
 
 use put::Page;
-use verdict::{Found, RowLists, Summary, Trap};
+use verdict::{Finding, Found, RowLists, Summary, Trap};
 
 // The lines after the heading: the table's size; the trap; and the lists of rows.
 fn sized(page: &mut Page, rows: u8, summary: Summary)
@@ -38,13 +38,13 @@ fn report(page: &mut Page, found: Found, rows: u8, signals: u8, trace: &[u8])
 {
     page.word(b"PNP report\n");
     match found {
-        Found::Refused(refusal) => lines::refused(page, refusal),
-        Found::Sound(summary) => {
+        Err(refusal) => lines::refused(page, refusal),
+        Ok(Finding::Sound(summary)) => {
             sized(page, rows, summary);
             page.word(b"verdict sound\n");
             listed(page, rows, summary.lists);
         }
-        Found::Trapped(summary, trap) => {
+        Ok(Finding::Trapped(summary, trap)) => {
             sized(page, rows, summary);
             page.word(b"verdict trapped\n");
             trapped(page, signals, trace, trap);
