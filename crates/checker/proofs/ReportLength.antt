@@ -9,7 +9,7 @@ use lib.ListN.{length, length-replicate}
 use borrow.Author.Tests.{leb-true}
 use Rattle.table.specs.Limits.{most_rows}
 use Rattle.table.specs.Valid.{table_valid}
-use Rattle.std.specs.Prelude.{Ok}
+use Rattle.std.specs.Prelude.{Ok, Err}
 use Rattle.table.specs.declared.Table.{Table}
 use Rattle.table.proofs.Laws.{table_valid_count, table_valid_signals}
 use Rattle.traces.specs.Inner.Judgement.{Judgement}
