@@ -84,37 +84,25 @@ fn goes_on(phase: Phase) -> Stepped
 fn aborts() -> Stepped
     ensures { result ≡ stepped_to Waiting only_aborted }
 {
-    Stepped {
-        phase: Phase::Waiting,
-        events: Events {
-            aborted: true,
-            ..Events::default()
-        },
-    }
+    let mut lapsed = goes_on(Phase::Waiting);
+    lapsed.events.aborted = true;
+    lapsed
 }
 
 fn completes() -> Stepped
     ensures { result ≡ stepped_to Waiting only_completed }
 {
-    Stepped {
-        phase: Phase::Waiting,
-        events: Events {
-            completed: true,
-            ..Events::default()
-        },
-    }
+    let mut stepped = goes_on(Phase::Waiting);
+    stepped.events.completed = true;
+    stepped
 }
 
 fn breaks(now: bool) -> Stepped
     ensures { result ≡ stepped_to Broken (events_of false false false false false now) }
 {
-    Stepped {
-        phase: Phase::Broken,
-        events: Events {
-            broken: now,
-            ..Events::default()
-        },
-    }
+    let mut stepped = goes_on(Phase::Broken);
+    stepped.events.broken = now;
+    stepped
 }
 
 #[tactic(auto, unfolding(crate::specs::Step::action_check, crate::specs::Events::action_events))]
