@@ -18,6 +18,7 @@ pub const ACTION_CODES: u8 = 2 * MOST_TICKS;
 pub const BROKEN_CODE: u8 = 255;
 
 // A phase's code. A phase that number 18 lets by has one of at most `BROKEN_CODE`.
+// Kept: `code` and `phase_of`, not `From`: docs/CONFORMANCE.md and the theorems name them.
 #[tactic(auto, unfolding(step::specs::Phase::code_of))]
 pub fn code(phase: Phase) -> u16
     ensures { result ≡ code_of phase }

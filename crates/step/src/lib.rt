@@ -105,6 +105,7 @@ fn breaks(now: bool) -> Stepped
     stepped
 }
 
+// Kept: row and letter apart, here and below: so does each definition of specs/Step.antt take them.
 #[tactic(auto, unfolding(crate::specs::Step::action_check, crate::specs::Events::action_events))]
 fn action_check(row: Row, letter: u8, a: u8) -> Stepped
     ensures { result ≡ stepped_to (action_check row letter a) (action_events row letter a) }
