@@ -4,14 +4,17 @@ use Prim.Native.Nat.{ℕ, zero, suc, ◌+◌, ◌<◌, ◌≤◌}
 use borrow.Author.Tests.{eqb-true, eq-eqb, ne_eqb, leb-true, le-leb, ltb-true, ltb-false}
 use native.Mathlib.Numerals.{add-one}
 use native.Mathlib.Omega.{arith}
-use mathlib.Core.Bool.{Bool, true, false, ◌&&◌, ◌||◌, not, and_assoc, true≢false}
-use mathlib.Core.List.{List, [], ◌∷◌, ◌++◌}
+use mathlib.Core.Bool.{Bool, true, false, ◌&&◌, ◌||◌, not, true≢false}
+use mathlib.Core.List.{List, ◌++◌}
 use mathlib.Core.Logic.{◌⊎◌, inl, inr}
-use mathlib.Core.Path.{◌≡◌, refl, sym}
+use mathlib.Core.Path.{◌≡◌, refl}
 use lib.Dec.{eqb, leb, ltb}
+use lib.Pointwise.{bytes_decides}
+use Rattle.std.proofs.lemmas.List.Folds.{list_all-append}
+use Rattle.std.proofs.lemmas.List.Sums.{AllPass-from_list_all}
 use lib.ListN.{length, get_or, take, drop, replicate, length-take, drop_of_length-le}
-use lib.Seq.{drop-cons, get_or-take}
-use Rattle.letters.specs.Lists.{within, every, some, same_bytes}
+use lib.Seq.{drop-cons}
+use Rattle.letters.specs.Lists.{within, every, same_bytes}
 
 -- Both halves of a test that passed.
 pub and_left : (a b : Bool) → (a && b) ≡ true → a ≡ true
@@ -66,29 +69,15 @@ module _ {A : Type 0} (test : A → Bool) where
   unfolding every
   every_end xs i h = rw (drop_of_length-le xs h)
 
-  pub some_drop : (xs : List A) (i : ℕ) (d : A) → i < length xs
-      → some test (drop i xs) ≡ (test (get_or xs i d) || some test (drop (i + 1) xs))
-  unfolding some
-  some_drop xs i d h = rw (drop-cons xs i d h, add-one)
-
-  pub some_end : (xs : List A) (i : ℕ) → length xs ≤ i → some test (drop i xs) ≡ false
-  unfolding some
-  some_end xs i h = rw (drop_of_length-le xs h)
-
   -- Where every element passes, the one at i does.
   pub every_at : (xs : List A) (i : ℕ) (d : A) → every test xs ≡ true → i < length xs
       → test (get_or xs i d) ≡ true
   unfolding every
-  every_at [] i d e h = absurd (omega arith)
-  every_at (x ∷ xs) zero d e h = and_left (test x) (every test xs) e
-  every_at (x ∷ xs) (suc i) d e h =
-      every_at xs i d (and_right (test x) (every test xs) e) (omega arith)
+  every_at xs i d e h = AllPass-from_list_all test xs e i d h
 
   pub every_append : (xs ys : List A) → every test (xs ++ ys) ≡ (every test xs && every test ys)
   unfolding every
-  every_append [] ys = refl
-  every_append (x ∷ xs) ys = rw (every_append xs ys)
-      (sym (and_assoc (test x) (every test xs) (every test ys)))
+  every_append = list_all-append test
 
   pub every_replicate : (x : A) → test x ≡ true → (k : ℕ) → every test (replicate k x) ≡ true
   unfolding every
@@ -104,33 +93,10 @@ module _ {A : Type 0} (test : A → Bool) (xs : List A) (i : ℕ) (d : A) (h : i
   pub every_stop : test (get_or xs i d) ≡ false → every test (drop i xs) ≡ false
   every_stop e = rw (every_drop test xs i d h, e)
 
-  pub some_next : test (get_or xs i d) ≡ false
-      → some test (drop i xs) ≡ some test (drop (i + 1) xs)
-  some_next e = rw (some_drop test xs i d h, e)
-
-  pub some_stop : test (get_or xs i d) ≡ true → some test (drop i xs) ≡ true
-  some_stop e = rw (some_drop test xs i d h, e)
-
--- The same turn over the first n elements.
+-- A place among the first n elements.
 pub lt_length_take : {A : Type 0} (n : ℕ) (xs : List A) (i : ℕ) → i < n → i < length xs
     → i < length (take n xs)
 lt_length_take n xs i h k = rw length-take (omega arith)
-
-module _ {A : Type 0} (test : A → Bool) (n : ℕ) (xs : List A) (i : ℕ) (d : A)
-    (h : i < n) (k : i < length xs) where
-  pub every_take_next : test (get_or xs i d) ≡ true
-      → every test (drop i (take n xs)) ≡ every test (drop (i + 1) (take n xs))
-  every_take_next e = every_next test (take n xs) i d (lt_length_take n xs i h k) (rw get_or-take e)
-
-  pub every_take_stop : test (get_or xs i d) ≡ false → every test (drop i (take n xs)) ≡ false
-  every_take_stop e = every_stop test (take n xs) i d (lt_length_take n xs i h k) (rw get_or-take e)
-
-  pub some_take_next : test (get_or xs i d) ≡ false
-      → some test (drop i (take n xs)) ≡ some test (drop (i + 1) (take n xs))
-  some_take_next e = some_next test (take n xs) i d (lt_length_take n xs i h k) (rw get_or-take e)
-
-  pub some_take_stop : test (get_or xs i d) ≡ true → some test (drop i (take n xs)) ≡ true
-  some_take_stop e = some_stop test (take n xs) i d (lt_length_take n xs i h k) (rw get_or-take e)
 
 -- All parts of a test of four that passed.
 pub and_four : (a b c d : Bool) → (a && b && c && d) ≡ true
@@ -159,18 +125,11 @@ module _ (xs ys : List ℕ) (i : ℕ) where
 -- The test passes at equal lists, and at no others.
 pub same_bytes_refl : (xs : List ℕ) → same_bytes xs xs ≡ true
 unfolding same_bytes
-same_bytes_refl [] = refl
-same_bytes_refl (x ∷ xs) = rw (eq-eqb x x refl, same_bytes_refl xs)
+same_bytes_refl xs = (bytes_decides xs xs).1 refl
 
 pub same_bytes_true : (xs ys : List ℕ) → same_bytes xs ys ≡ true → xs ≡ ys
 unfolding same_bytes
-same_bytes_true [] [] h = refl
-same_bytes_true [] (y ∷ ys) h = absurd (let z : ◌≡◌ {A = ℕ} 0 1 = cc in omega arith)
-same_bytes_true (x ∷ xs) [] h = absurd (let z : ◌≡◌ {A = ℕ} 0 1 = cc in omega arith)
-same_bytes_true (x ∷ xs) (y ∷ ys) h =
-    let head = eqb-true x y (and_left (eqb x y) (same_bytes xs ys) h) in
-    let tail = same_bytes_true xs ys (and_right (eqb x y) (same_bytes xs ys) h) in
-    cc
+same_bytes_true xs ys = (bytes_decides xs ys).0
 
 pub same_bytes_false : (xs ys : List ℕ) → (xs ≡ ys → ⊥) → same_bytes xs ys ≡ false
 same_bytes_false xs ys other = go (same_bytes xs ys) (same_bytes_true xs ys)

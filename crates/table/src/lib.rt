@@ -20,6 +20,7 @@ pub const MOST_TICKS: u8 = 60;
 pub const NAME_CHARS: usize = 8;
 
 // The places of a row's conditions, in the order of the file's fields.
+// Kept: numbers, since `holds` of specs/Row.antt takes the place, and the reader counts them.
 pub const CONDITIONS: usize = 6;
 
 pub const TSE: usize = 0;
@@ -38,7 +39,8 @@ pub const AEE: usize = 5;
 pub const FIELDS: usize = 12;
 
 // A row: its six conditions as sets of letters, and the bounds of trigger, delay and action.
-#[derive(Clone, Copy, Debug, PartialEq, Eq)]
+// Kept: six bounds, not three pairs: `row_valid` and the theorems name each of them.
+#[derive(Clone, Copy, Debug, Default, PartialEq, Eq)]
 pub struct Row {
     pub sets: [u64; CONDITIONS],
     pub tmin: u8,
@@ -50,20 +52,22 @@ pub struct Row {
 }
 
 // A signal's name: its letters a-z, then zeros.
-#[derive(Clone, Copy, Debug, PartialEq, Eq)]
+// Kept: eight places, since there is no heap, and `name_valid` speaks of those after the letters.
+#[derive(Clone, Copy, Debug, Default, PartialEq, Eq)]
 pub struct Name {
     pub chars: [u8; NAME_CHARS],
 }
 
 // The signals of a table: the first `count` names are used.
-#[derive(Clone, Copy, Debug, PartialEq, Eq)]
+#[derive(Clone, Copy, Debug, Default, PartialEq, Eq)]
 pub struct Signals {
     pub count: u8,
     pub names: [Name; MOST_SIGNALS],
 }
 
 // A table value. The first `signals` names and the first `count` rows are used; the others are 0.
-#[derive(Clone, Copy, Debug, PartialEq, Eq)]
+// Kept: counts beside arrays, since there is no heap, and `table_valid` speaks of the other places.
+#[derive(Clone, Copy, Debug, Default, PartialEq, Eq)]
 pub struct Table {
     pub signals: u8,
     pub names: [Name; MOST_SIGNALS],
@@ -72,6 +76,7 @@ pub struct Table {
 }
 
 // Why a file or a call is turned down: document 01's number, and the line that it names or 0.
+// Kept: numbers, since `refused_at`, the documents and the printed reports name a refusal by them.
 #[derive(Clone, Copy, Debug, PartialEq, Eq)]
 pub struct Refusal {
     pub number: u8,
@@ -82,24 +87,23 @@ pub struct Refusal {
 pub type Outcome = Result<(), Refusal>;
 
 // Whether a file can have so many signals and so many rows.
+#[tactic(auto, unfolding(crate::specs::Valid::counts_allowed))]
 pub fn counts_allowed(signals: u8, count: usize) -> bool
     ensures { result ≡ counts_allowed signals count }
 {
-    letters::within(1, MOST_SIGNALS, signals as usize) & letters::within(1, MOST_ROWS, count)
+    (1..=MOST_SIGNALS).contains(&usize::from(signals)) & (1..=MOST_ROWS).contains(&count)
 }
 
 // Whether number 17 lets a table value by.
 pub fn valid(table: Table) -> bool
     ensures { result ≡ table_valid table }
 {
-    let signals = table.signals as usize;
-    let count = table.count as usize;
-    let names = table.names;
-    let rows = table.rows;
+    let signals = usize::from(table.signals);
+    let count = usize::from(table.count);
     counts_allowed(table.signals, count)
-        & names::used_valid(names, signals)
-        & names::distinct(names, signals)
-        & names::rest_unused(names, signals)
-        & rows::used_valid(table.signals, rows, count)
-        & rows::rest_unused(rows, count)
+        & names::used_valid(table.names, signals)
+        & names::distinct(table.names, signals)
+        & names::rest_unused(table.names, signals)
+        & rows::used_valid(table.signals, table.rows, count)
+        & rows::rest_unused(table.rows, count)
 }

@@ -2,11 +2,10 @@
 // the table.
 #![tactic(auto)]
 
-use input::Input;
 use std::fs::File;
 use std::rt::Files;
 use std::{env, io};
-use table::{Name, Outcome, Refusal, Row, Table};
+use table::{Name, Refusal, Row, Table};
 
 // The letters up to a 0.
 #[tactic(auto, using(text::proofs::Splits::front_length))]
@@ -61,8 +60,8 @@ fn is_empty(table: Table) -> bool {
 fn show(rt: &impl Print, bytes: &[u8]) -> io::Result<()> {
     let read = reader::read(bytes);
     match read.outcome {
-        Outcome::Accepted => print_table(rt, read.table),
-        Outcome::Refused(Refusal { number, line }) => {
+        Ok(()) => print_table(rt, read.table),
+        Err(Refusal { number, line }) => {
             let empty = if is_empty(read.table) {
                 "empty"
             } else {
@@ -80,8 +79,8 @@ fn show_file(rt: &(impl Print + Files), name: &str) -> io::Result<()> {
     };
     let mut buffer = [0u8; 5000];
     match input::read_all(&mut file, &mut buffer) {
-        Input::Read(n) => show(rt, &buffer[..n]),
-        Input::Failed => show(rt, b""),
+        Ok(n) => show(rt, &buffer[..n]),
+        Err(_) => show(rt, b""),
     }
 }
 
