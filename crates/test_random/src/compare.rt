@@ -4,9 +4,13 @@ use crate::expected::{Trap, Values};
 use crate::lent::{Held, Lengths};
 use random::tally::unless;
 use table::Refusal;
-use verdict::{Found, Summary};
+use verdict::{Finding, Found};
 
-fn values_of(summary: Summary, trap: Option<verdict::Trap>) -> Values {
+fn values_of(finding: Finding) -> Values {
+    let (summary, trap) = match finding {
+        Finding::Sound(summary) => (summary, None),
+        Finding::Trapped(summary, trap) => (summary, Some(trap)),
+    };
     Values {
         count: usize::from(summary.count),
         never: summary.lists.never,
@@ -17,17 +21,9 @@ fn values_of(summary: Summary, trap: Option<verdict::Trap>) -> Values {
     }
 }
 
-fn answer_of(found: Found) -> Result<Values, Refusal> {
-    match found {
-        Found::Refused(refusal) => Err(refusal),
-        Found::Sound(summary) => Ok(values_of(summary, None)),
-        Found::Trapped(summary, trap) => Ok(values_of(summary, Some(trap))),
-    }
-}
-
 // The answer, and "every other number or mark in the answer is 0 or absent".
 pub fn compare_answers(found: Found, right: Result<Values, u8>) -> u32 {
-    let given = answer_of(found);
+    let given = found.map(values_of);
     let right = right.map_err(|number| Refusal { number, line: 0 });
     let refused = unless(given.err() == right.err(), 1);
     let trapped = |values: Values| values.trap.is_some();

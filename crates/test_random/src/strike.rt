@@ -3,7 +3,7 @@
 use crate::lent::{Held, Lengths};
 use random::numbers::{below, byte_below, mixed, one_in};
 use std::ops::BitXorAssign;
-use verdict::{Found, Summary};
+use verdict::{Finding, Found, Summary};
 
 // The lists: states, lost numbers, index, trace, and the set of rows that never fire, whose places
 // are its bits.
@@ -77,18 +77,19 @@ fn strike_summary(summary: Summary, at: usize) -> Summary {
 
 // The answer with a row put into its set of rows that never fire, or taken out, if it is the one.
 pub fn struck_answer(found: Found, strike: Option<Strike>) -> Found {
-    let Some(
-        Strike {
-            list: List::Never,
-            at,
-        },
-    ) = strike
-    else {
-        return found;
-    };
-    match found {
-        Found::Refused(refusal) => Found::Refused(refusal),
-        Found::Sound(summary) => Found::Sound(strike_summary(summary, at)),
-        Found::Trapped(summary, trap) => Found::Trapped(strike_summary(summary, at), trap),
+    match (found, strike) {
+        (
+            Ok(finding),
+            Some(
+                Strike {
+                    list: List::Never,
+                    at,
+                },
+            ),
+        ) => Ok(match finding {
+            Finding::Sound(summary) => Finding::Sound(strike_summary(summary, at)),
+            Finding::Trapped(summary, trap) => Finding::Trapped(strike_summary(summary, at), trap),
+        }),
+        _ => found,
     }
 }

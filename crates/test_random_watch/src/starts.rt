@@ -1,7 +1,7 @@
 // Random states and traces for the watcher, and which number a tick of them should give.
 ghost use Rattle.std.specs.Prelude.{◌≤◌};
 
-use pass::{Slot, Watch};
+use pass::Watch;
 use random::numbers::{below, byte_below, mixed, one_in};
 use random::tables::letter_count;
 use step::Phase;
@@ -56,15 +56,11 @@ pub fn any_codes(seed: u64, table: Table) -> [u8; MOST_ROWS] {
 
 // The watcher's state with these codes.
 pub fn watch_of(codes: [u8; MOST_ROWS]) -> Watch {
-    let waiting = Slot {
-        phase: Phase::Waiting,
-    };
     let mut watch = Watch {
-        slots: [waiting; MOST_ROWS],
+        slots: [Phase::Waiting; MOST_ROWS],
     };
     for i in 0..MOST_ROWS {
-        let phase = phases::phase_of(codes[i]);
-        watch.slots[i] = Slot { phase };
+        watch.slots[i] = phases::phase_of(codes[i]);
     }
     watch
 }

@@ -59,9 +59,7 @@ fn number_of(e: Events) -> u8 {
 
 fn same_codes(watch: Watch, codes: [u8; MOST_ROWS]) -> bool {
     for i in 0..MOST_ROWS {
-        let slot = watch.slots[i];
-        let phase = slot.phase;
-        if phases::code(phase) != codes[i] as u16 {
+        if phases::code(watch.slots[i]) != codes[i] as u16 {
             return false;
         }
     }
