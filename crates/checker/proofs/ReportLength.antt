@@ -9,7 +9,7 @@ use lib.ListN.{length, length-replicate}
 use borrow.Author.Tests.{leb-true}
 use Rattle.table.specs.Limits.{most_rows}
 use Rattle.table.specs.Valid.{table_valid}
-use Rattle.std.specs.Prelude.{Ok}
+use Rattle.std.specs.Prelude.{Ok, Err}
 use Rattle.table.specs.declared.Table.{Table}
 use Rattle.table.proofs.Laws.{table_valid_count, table_valid_signals}
 use Rattle.traces.specs.Inner.Judgement.{Judgement}
@@ -21,7 +21,7 @@ use Rattle.reader.proofs.Valid.{file_valid}
 use Rattle.lists.specs.Room.{most_room}
 use Rattle.search.specs.Inner.Same.{same_phases}
 use Rattle.verdict.specs.declared.RowLists.{RowLists}
-use Rattle.verdict.specs.Found.{values_of, refused_found, trapped_found}
+use Rattle.verdict.specs.Found.{Found, values_of, refused_found, trapped_found}
 use Rattle.search.specs.Lent.{Lent, Searched, room_of, system_of, traced}
 use Rattle.search.specs.Inner.Computed.{judged, search_answer}
 use Rattle.search.proofs.Room.{room_most}
@@ -99,7 +99,7 @@ checked_short bytes lent short = go (read_decided bytes)
     go : Decided bytes (read_answer bytes) → length (check_answer bytes lent).report ≤ most_report
     go (taken table file e) = rw e (accepted_short table lent short (file_valid bytes table file))
     go (turned number line one small low e) =
-        let found = Err (record { number = number; line = line }) in
+        let found : Found = Err (record { number = number; line = line }) in
         let few = report_length 0 0 most_room 3 17 lent.trace (omega arith) (omega arith) found
         (refused_few 0 number line (omega arith) (omega arith) (omega arith)) in
         rw e (omega (arith, few))
