@@ -1,11 +1,16 @@
 -- Parts of a slice, as the logic has them, and as the definitions do. Assumes nothing.
 use Prim.Native.Nat.{ℕ, ◌-◌}
+use Rattle.std.specs.List.{starts_with as begins}
+use Rattle.std.specs.Cmp.Lexicographic.{pointwise}
+use Rattle.std.proofs.lemmas.Bool.Decides.{nat_tests}
 use native.Mathlib.Omega.{arith}
-use mathlib.Core.List.{List}
-use mathlib.Core.Path.{◌≡◌, sym}
+use mathlib.Core.List.{List, [], ◌∷◌}
+use mathlib.Core.Path.{◌≡◌, refl, sym}
 use lib.ListN.{length, take, drop, length-drop}
 use lib.Seq.{take_all}
-use Rattle.text.specs.Inner.Cut.{front}
+use lib.Dec.{eqb}
+use Rattle.letters.specs.Lists.{same_bytes}
+use Rattle.text.specs.Inner.Cut.{front, starts_with}
 use Rattle.text.proofs.Splits.{front_take}
 
 -- `&l[a..]`.
@@ -15,3 +20,17 @@ rest_whole l a = take_all (length l - a) (drop a l) (rw length-drop (omega arith
 -- `&l[..n]`, where n is what `find` gives.
 pub part_front : (b : ℕ) (l : List ℕ) {n : ℕ} → n ≡ length (front b l) → take n l ≡ front b l
 part_front b l e = rw e (sym (front_take b l))
+
+-- What the bytes begin with, as the library has it.
+eqb_sym : (x y : ℕ) → eqb y x ≡ eqb x y
+eqb_sym x y = grind (arith, nat_tests)
+
+pointwise_same : (xs ys : List ℕ) → pointwise eqb ys xs ≡ same_bytes xs ys
+unfolding same_bytes
+pointwise_same [] [] = refl
+pointwise_same [] (y ∷ ys) = refl
+pointwise_same (x ∷ xs) [] = refl
+pointwise_same (x ∷ xs) (y ∷ ys) = rw (eqb_sym x y, pointwise_same xs ys)
+
+pub starts_with_word : (word xs : List ℕ) → begins eqb xs word ≡ starts_with word xs
+starts_with_word word xs = pointwise_same (take (length word) xs) word
