@@ -25,7 +25,7 @@ part_front b l e = rw e (sym (front_take b l))
 eqb_sym : (x y : ℕ) → eqb y x ≡ eqb x y
 eqb_sym x y = grind (arith, nat_tests)
 
-pointwise_same : (xs ys : List ℕ) → pointwise eqb ys xs ≡ same_bytes xs ys
+pub pointwise_same : (xs ys : List ℕ) → pointwise eqb ys xs ≡ same_bytes xs ys
 unfolding same_bytes
 pointwise_same [] [] = refl
 pointwise_same [] (y ∷ ys) = refl

@@ -3,7 +3,8 @@
 use Prim.Native.Nat.{ℕ, suc, ◌+◌, ◌<◌, ◌≤◌}
 use borrow.Author.Tests.{eqb-true, eq-eqb, ltb-false}
 use native.Mathlib.Omega.{arith}
-use mathlib.Core.Bool.{Bool, true, false}
+use mathlib.Core.Bool.{Bool, true, false, not}
+use Rattle.std.proofs.lemmas.List.Sums.{prefix_len-le-length}
 use mathlib.Core.List.{List, [], ◌∷◌, ◌++◌}
 use mathlib.Core.Logic.{⊎_elim}
 use Rattle.std.proofs.lemmas.Bool.{cases_Bool}
@@ -129,28 +130,26 @@ module _ (b : ℕ) where
     pub front_short : length (front b xs) < length xs
     front_short = omega (arith, simp length-append at (ap length (front_after xs h)))
 
+-- The place of the first element that passes, or how many there are.
+pub position_unwrapped : {X : Type 0} (p : X → Bool) (xs : List X)
+    → unwrap_or (position p xs) (length xs) ≡ position_or_len p xs
+position_unwrapped p xs = go (ltb (position_or_len p xs) (length xs)) refl
+  where
+    go : (t : Bool) → ltb (position_or_len p xs) (length xs) ≡ t
+        → unwrap_or (cond t (Some (position_or_len p xs)) None) (length xs) ≡ position_or_len p xs
+    go true e = refl
+    go false e =
+        let past = ltb-false (position_or_len p xs) (length xs) e in
+        omega (arith, prefix_len-le-length (λ x. not (p x)) xs)
+
 -- The front is as long as the library's search for b says, and `count` is its count.
-front_or_len : (b : ℕ) (xs : List ℕ)
+pub front_position : (b : ℕ) (xs : List ℕ)
     → length (front b xs) ≡ position_or_len (λ x. eqb x b) xs
 unfolding front
-front_or_len b [] = refl
-front_or_len b (x ∷ xs) =
-    let rest = front_or_len b xs in
+front_position b [] = refl
+front_position b (x ∷ xs) =
+    let rest = front_position b xs in
     ⊎_elim (λ e. rw e) (λ e. rw e (omega arith)) (cases_Bool (eqb x b))
-
-pub front_position : (b : ℕ) (xs : List ℕ)
-    → length (front b xs) ≡ unwrap_or (position (λ x. eqb x b) xs) (length xs)
-front_position b xs = go (ltb at (length xs)) refl
-  where
-    at : ℕ
-    at = position_or_len (λ x. eqb x b) xs
-
-    go : (t : Bool) → ltb at (length xs) ≡ t
-        → length (front b xs) ≡ unwrap_or (cond t (Some at) None) (length xs)
-    go true e = front_or_len b xs
-    go false e =
-        let past = ltb-false at (length xs) e in
-        omega (arith, front_or_len b xs, front_length b xs)
 
 pub count_by_byte : (b : ℕ) (xs : List ℕ) → count b xs ≡ count_by (λ x. eqb x b) xs
 unfolding count
