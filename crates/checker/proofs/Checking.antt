@@ -2,7 +2,7 @@
 use Prim.Native.Nat.{ℕ}
 use mathlib.Core.List.{List}
 use mathlib.Core.Path.{◌≡◌}
-use Rattle.table.specs.declared.Outcome.TheVariants.{Accepted, Refused}
+use Rattle.std.specs.Prelude.{Ok, Err}
 use Rattle.table.specs.declared.Refusal.{Refusal}
 use Rattle.reader.specs.declared.Reading.{Reading}
 use Rattle.reader.specs.Inner.File.{read_answer}
@@ -13,25 +13,25 @@ use Rattle.checker.specs.Inner.Computed.{after_loading, load_answer}
 
 module _ (bytes : List ℕ) (lent : Lent) {reading : Reading} (read : reading ≡ read_answer bytes)
   where
-    pub refused_checked : {refusal : Refusal} → reading.outcome ≡ Refused refusal
-        → check_answer bytes lent ≡ after_reading (Refused refusal) reading.table lent
+    pub refused_checked : {refusal : Refusal} → reading.outcome ≡ Err refusal
+        → check_answer bytes lent ≡ after_reading (Err refusal) reading.table lent
     unfolding check_answer
     refused_checked e = rw (← read, e)
 
-    pub accepted_checked : reading.outcome ≡ Accepted
-        → check_answer bytes lent ≡ after_reading Accepted reading.table lent
+    pub accepted_checked : reading.outcome ≡ Ok tt
+        → check_answer bytes lent ≡ after_reading (Ok tt) reading.table lent
     unfolding check_answer
     accepted_checked e = rw (← read, e)
 
 -- And its totals.
 module _ (bytes : List ℕ) {reading : Reading} (read : reading ≡ read_answer bytes) where
-  pub refused_loaded : {refusal : Refusal} → reading.outcome ≡ Refused refusal
-      → load_answer bytes ≡ after_loading (Refused refusal) reading.table
+  pub refused_loaded : {refusal : Refusal} → reading.outcome ≡ Err refusal
+      → load_answer bytes ≡ after_loading (Err refusal) reading.table
   unfolding load_answer
   refused_loaded e = rw (← read, e)
 
-  pub accepted_loaded : reading.outcome ≡ Accepted
-      → load_answer bytes ≡ after_loading Accepted reading.table
+  pub accepted_loaded : reading.outcome ≡ Ok tt
+      → load_answer bytes ≡ after_loading (Ok tt) reading.table
   unfolding load_answer
   accepted_loaded e = rw (← read, e)
 

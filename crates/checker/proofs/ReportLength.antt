@@ -9,7 +9,7 @@ use lib.ListN.{length, length-replicate}
 use borrow.Author.Tests.{leb-true}
 use Rattle.table.specs.Limits.{most_rows}
 use Rattle.table.specs.Valid.{table_valid}
-use Rattle.table.specs.declared.Outcome.TheVariants.{Accepted}
+use Rattle.std.specs.Prelude.{Ok}
 use Rattle.table.specs.declared.Table.{Table}
 use Rattle.table.proofs.Laws.{table_valid_count, table_valid_signals}
 use Rattle.traces.specs.Inner.Judgement.{Judgement}
@@ -84,7 +84,7 @@ module _ (table : Table) (lent : Lent) (short : length lent.trace ≤ most_room)
       (room_most lent) _ (judge_within (system_of table) (room_of lent) same_phases) _ lent _ short)
 
   accepted_short : table_valid table ≡ true
-      → length (after_reading Accepted table lent).report ≤ most_report
+      → length (after_reading (Ok tt) table lent).report ≤ most_report
   accepted_short fits =
       let searched = search_answer table lent in
       let signals = (table_valid_signals table fits).1 in

@@ -7,7 +7,7 @@ use mathlib.Core.Path.{◌≡◌, ap}
 use lib.ListN.{length}
 use Rattle.table.specs.Valid.{table_valid}
 use Rattle.table.specs.Further.Numbers.{number_of, line_of}
-use Rattle.table.specs.declared.Outcome.TheVariants.{Refused}
+use Rattle.std.specs.Prelude.{Err}
 use Rattle.table.specs.declared.Table.{Table}
 use Rattle.table.proofs.Laws.{table_valid_count}
 use Rattle.reader.specs.Inner.File.{read_answer}
@@ -49,7 +49,7 @@ load_short bytes = go (read_decided bytes)
         rw e (totals_short table.count (run_answer table load_start load_ticks)
         (run_few table (file_valid bytes table file)))
     go (turned number line one small low e) =
-        rw e (totals_short 0 (not_run (Refused (record { number = number; line = line })))
+        rw e (totals_short 0 (not_run (Err (record { number = number; line = line })))
         (record {
           rules = omega arith;
           refusal =

@@ -10,7 +10,7 @@ use mathlib.Core.Path.{◌≡◌, refl, ap, ◌∙◌}
 use lib.ListN.{length}
 use Rattle.table.specs.Limits.{most_bytes}
 use Rattle.table.specs.Valid.{table_valid}
-use Rattle.table.specs.declared.Outcome.TheVariants.{Accepted, Refused}
+use Rattle.std.specs.Prelude.{Ok, Err}
 use Rattle.table.specs.declared.Refusal.{Refusal}
 use Rattle.table.specs.declared.Table.{Table}
 use Rattle.reader.specs.declared.Reading.{Reading}
@@ -26,13 +26,13 @@ use Rattle.checker.specs.Inner.Computed.{after_writing, writing_answer}
 
 -- A file that the reader refuses, and one that it accepts.
 module _ (bytes : List ℕ) {reading : Reading} (read : reading ≡ read_answer bytes) where
-  pub refused_printed : {refusal : Refusal} → reading.outcome ≡ Refused refusal
+  pub refused_printed : {refusal : Refusal} → reading.outcome ≡ Err refusal
       → writing_answer bytes ≡ refused_text refusal.number refusal.line
   unfolding writing_answer
   refused_printed e = rw (← read, e)
 
-  module _ (taken_is : reading.outcome ≡ Accepted) where
-    pub accepted_printed : writing_answer bytes ≡ after_writing Accepted reading.table
+  module _ (taken_is : reading.outcome ≡ Ok tt) where
+    pub accepted_printed : writing_answer bytes ≡ after_writing (Ok tt) reading.table
     unfolding writing_answer
     accepted_printed = rw (← read, taken_is)
 
@@ -51,12 +51,12 @@ module _ (bytes : List ℕ) {reading : Reading} (read : reading ≡ read_answer 
 module _ (table : Table) (buffer : List ℕ) (passes : table_valid table ≡ true)
     (room : length buffer ≡ most_bytes) where
   abbrev text : List ℕ
-  text = after_writing Accepted table
+  text = after_writing (Ok tt) table
 
   pub record Printed (call : WriteCall) : Type 0 where
-    pub refused : (refusal : Refusal) → call.outcome ≡ Refused refusal
+    pub refused : (refusal : Refusal) → call.outcome ≡ Err refusal
         → (call.buffer ≡ buffer) × (refused_text refusal.number refusal.line ≡ text)
-    pub taken : call.outcome ≡ Accepted
+    pub taken : call.outcome ≡ Ok tt
         → (call.length ≡ length text) × (call.buffer ≡ written text buffer)
 
   long_printed : most_bytes < length (file_text table) → Printed (unwritten 23 buffer)
@@ -89,11 +89,11 @@ refused_short : (number line : ℕ) → number < 1000 → line < 1000
     → length (refused_text number line) ≤ most_bytes
 refused_short number line m n = omega (arith, refused_length number line m n)
 
-table_short : (table : Table) → length (after_writing Accepted table) ≤ most_bytes
+table_short : (table : Table) → length (after_writing (Ok tt) table) ≤ most_bytes
 table_short table = go (dec_lt most_bytes (length (file_text table)))
   where
     go : Dec (most_bytes < length (file_text table))
-        → length (after_writing Accepted table) ≤ most_bytes
+        → length (after_writing (Ok tt) table) ≤ most_bytes
     go (yes long) =
         rw (lt-ltb most_bytes (length (file_text table)) long)
         (refused_short 23 0 (omega arith) (omega arith))

@@ -3,9 +3,8 @@
 // demands, say what is right, for every file and all lent memory.
 #![tactic(auto)]
 
-ghost use Rattle.std.specs.Prelude.{true, ◌≡◌, length};
+ghost use Rattle.std.specs.Prelude.{true, ◌≡◌, length, Ok};
 ghost use Rattle.table.specs.Valid.{table_valid};
-ghost use Rattle.table.specs.declared.Outcome.TheVariants.{Accepted};
 ghost use Rattle.verdict.specs.Buffer.{written};
 ghost use Rattle.search.specs.Lent.{lent_lists};
 ghost use Rattle.checker.specs.FileReport.{program_lent};
@@ -14,7 +13,7 @@ ghost use Rattle.checker.specs.Inner.Computed.{check_answer, load_answer};
 ghost use Rattle.checker.specs.Inner.Computed.{after_writing, writing_answer};
 
 use scratch::MOST_INDEX;
-use table::{MOST_BYTES, Outcome, Table};
+use table::{MOST_BYTES, Table};
 use verdict::Found;
 
 // "The program lends room 4,096 and a trace buffer of as many bytes."
@@ -48,8 +47,8 @@ pub fn check(
     let read = reader::read(bytes);
     let outcome = read.outcome;
     match outcome {
-        Outcome::Refused(refusal) => report::write(Found::Refused(refusal), 0, 0, &*trace, out),
-        Outcome::Accepted => {
+        Err(refusal) => report::write(Found::Refused(refusal), 0, 0, &*trace, out),
+        Ok(()) => {
             let table = read.table;
             let found = search::search(table, states, lost, index, trace);
             report::write(found, table.count, table.signals, &*trace, out)
@@ -81,8 +80,8 @@ pub fn load_file(bytes: &[u8], out: &mut [u8]) -> usize
     let read = reader::read(bytes);
     let outcome = read.outcome;
     match outcome {
-        Outcome::Refused(refusal) => totals::write(load::refused(refusal), 0, out),
-        Outcome::Accepted => {
+        Err(refusal) => totals::write(load::refused(refusal), 0, out),
+        Ok(()) => {
             let table = read.table;
             let ran = load::run(table, LOAD_START, LOAD_TICKS);
             totals::write(ran, table.count, out)
@@ -93,14 +92,14 @@ pub fn load_file(bytes: &[u8], out: &mut [u8]) -> usize
 // The written table, or its refused line.
 fn write_table(table: Table, out: &mut [u8; MOST_BYTES]) -> usize
     requires { table_valid table ≡ true }
-    ensures value { result ≡ length (after_writing Accepted table) }
-    ensures out_after { out.new ≡ written (after_writing Accepted table) out.old }
+    ensures value { result ≡ length (after_writing (Ok tt) table) }
+    ensures out_after { out.new ≡ written (after_writing (Ok tt) table) out.old }
 {
     let call = writer::write(table, out);
     let outcome = call.outcome;
     match outcome {
-        Outcome::Refused(refusal) => lines::write_refused(refusal, out),
-        Outcome::Accepted => call.length,
+        Err(refusal) => lines::write_refused(refusal, out),
+        Ok(()) => call.length,
     }
 }
 
@@ -116,8 +115,8 @@ pub fn write_file(bytes: &[u8], out: &mut [u8; MOST_BYTES]) -> usize
     let read = reader::read(bytes);
     let outcome = read.outcome;
     match outcome {
-        Outcome::Refused(refusal) => lines::write_refused(refusal, out),
-        Outcome::Accepted => {
+        Err(refusal) => lines::write_refused(refusal, out),
+        Ok(()) => {
             let table = read.table;
             write_table(table, out)
         }

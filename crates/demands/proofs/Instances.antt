@@ -4,12 +4,12 @@ use Prim.Native.Nat.{ℕ, ◌≤◌}
 use native.Mathlib.Omega.{arith}
 use mathlib.Core.Bool.{true, false}
 use mathlib.Core.List.{List, [], ◌∷◌}
-use mathlib.Core.Path.{◌≡◌, refl, ◌∙◌}
+use mathlib.Core.Path.{◌≡◌, refl}
 use lib.Dec.{lit≤}
 use lib.ListN.{length}
 use Rattle.letters.specs.Letter.{bit_at, set_of}
 use Rattle.letters.specs.Lists.{some}
-use Rattle.table.specs.Valid.{counts_allowed, table_valid, rows_of}
+use Rattle.table.specs.Valid.{counts_allowed, table_valid}
 use Rattle.table.specs.declared.Row.{Row}
 use Rattle.table.specs.declared.Table.{Table}
 use Rattle.traces.specs.Inner.Explore.{has, enter, visit, explore}
@@ -17,7 +17,7 @@ use Rattle.traces.specs.Inner.Passing.{some_below, some_passes}
 use Rattle.traces.specs.Inner.Least.{pass_below, breaks_in, lost_within}
 use Rattle.traces.specs.Inner.Judgement.{RightJudgement, verdict_from, judge}
 use Rattle.traces.specs.Inner.Judgement.Judgement.{too_many, sound, trapped}
-use Rattle.traces.specs.Inner.Judgement.RightJudgement.{too_many_right, sound_right, trapped_right}
+use Rattle.traces.specs.Inner.Judgement.RightJudgement.{too_many_right, trapped_right}
 use Rattle.traces.proofs.Judgement.{judge_right}
 use Rattle.step.specs.Phase.{is_broken}
 use Rattle.step.specs.Step.{action_check, delay_check, trigger_check, start_check, step_row}
@@ -37,11 +37,10 @@ use Rattle.search.specs.Inner.Computed.{never_within, search_answer}
 use Rattle.demands.specs.Examples.Cases.{P, report, no_rows}
 use Rattle.demands.specs.Examples.Texts.{text_p, text_not_c, table_of, ReadAs}
 use Rattle.demands.specs.Searching.{Fit, RightLists, Entered}
-use Rattle.demands.specs.Inner.Answers.{with_entries, lists_in}
-use Rattle.demands.specs.Inner.Answers.ComputedAnswer.{is17, is20, is21, is_sound}
+use Rattle.demands.specs.Inner.Answers.{with_entries}
+use Rattle.demands.specs.Inner.Answers.ComputedAnswer.{is17, is20, is21}
 use Rattle.demands.proofs.Answers.{answer_is}
-use Rattle.demands.proofs.Described.{entries_entered, lists_right}
-use Rattle.demands.proofs.NeverFires.{lists_only}
+use Rattle.demands.proofs.Described.{entries_entered}
 use Rattle.demands.proofs.Starred.{computed_right, report_right, sound_fit, sound_is}
 use Rattle.demands.proofs.WholeReport.{boards_read}
 

@@ -10,7 +10,7 @@ use lib.ListN.{length, get_or}
 use Rattle.letters.specs.Letter.{bit}
 use Rattle.table.specs.Row.{no_row}
 use Rattle.table.specs.Valid.{table_valid, rows_of}
-use Rattle.table.specs.declared.Outcome.TheVariants.{Accepted as Taken}
+use Rattle.std.specs.Prelude.{Ok}
 use Rattle.table.specs.declared.Row.{Row}
 use Rattle.table.specs.declared.Table.{Table}
 use Rattle.table.proofs.Laws.{table_valid_rows}
@@ -60,7 +60,7 @@ module _ (table : Table) (start ticks : ℕ) (passes : table_valid table ≡ tru
   abbrev w : List ℕ
   w = load_of s start ticks
 
-  pub run_accepted : (run_answer table start ticks).outcome ≡ Taken
+  pub run_accepted : (run_answer table start ticks).outcome ≡ Ok tt
   run_accepted = ap (λ (r : Ran). r.outcome) (run_taken table start ticks passes few)
 
   ok : CallValid s rows start_watch

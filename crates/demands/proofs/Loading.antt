@@ -1,5 +1,5 @@
 -- What is promised of the burn-in, each with its proof. Assumes nothing.
-use Prim.Native.Nat.{ℕ, suc, ◌+◌, ◌<◌, ◌≤◌}
+use Prim.Native.Nat.{ℕ, suc, ◌<◌, ◌≤◌}
 use mathlib.Core.Bool.{true, false}
 use mathlib.Core.List.{List, [], ◌∷◌, ◌++◌, map}
 use mathlib.Core.Logic.{◌↔◌}
@@ -9,7 +9,7 @@ use Rattle.letters.specs.Letter.{letters, bit}
 use Rattle.table.specs.Limits.{most_bytes, most_rows}
 use Rattle.table.specs.Valid.{table_valid, rows_valid, rows_of}
 use Rattle.table.specs.Further.Numbers.{number_of, line_of}
-use Rattle.table.specs.declared.Outcome.TheVariants.{Accepted as Taken}
+use Rattle.std.specs.Prelude.{Ok}
 use Rattle.table.specs.declared.Row.{Row}
 use Rattle.table.specs.declared.Table.{Table}
 use Rattle.traces.specs.Trace.{AllBelow}
@@ -60,7 +60,7 @@ program_load s = load_described s 1 1000
 pub load_taken : (s : ℕ) (rows : List Row) (start ticks l : ℕ) → rows_valid s rows ≡ true
     → l < letters s
     → (tick_answer s rows (record_after s rows start_watch (load_of s start ticks)) l).reply.outcome
-    ≡ Taken
+    ≡ Ok tt
 load_taken s rows start ticks l rules =
     Watching.never_refused s rows start_watch (Watching.start_accepted s rows rules)
     (load_of s start ticks) (load_letters s start ticks) l
@@ -127,7 +127,7 @@ module _ (table : Table) (start ticks : ℕ) where
   -- A run that is taken, beside the calls of the watcher for its letters, one after the other.
   module _ (passes : table_valid table ≡ true) (few : ticks ≤ longest_run) (i : ℕ)
       (used : i < length (rows_of table)) where
-    pub run_taken : ran.outcome ≡ Taken
+    pub run_taken : ran.outcome ≡ Ok tt
     run_taken = Laws.run_accepted table start ticks passes few
 
     -- "The first three equal the counts in the run's events."

@@ -16,7 +16,7 @@ use Rattle.table.specs.Further.Numbers.{number_of, line_of}
 use Rattle.table.specs.Valid.{table_valid, rows_of}
 use Rattle.table.specs.declared.Row.{Row}
 use Rattle.table.specs.declared.Table.{Table}
-use Rattle.table.specs.declared.Outcome.TheVariants.{Accepted as Taken}
+use Rattle.std.specs.Prelude.{Ok}
 use Rattle.table.proofs.Laws.{table_valid_rows, rows_valid_count}
 use Rattle.traces.specs.Trace.{AllBelow, run}
 use Rattle.step.specs.declared.Phase.{Phase}
@@ -95,7 +95,7 @@ module _ (table : Table) (watch : Watch) where
       unfolding table_play answered
       taken = rw (passes, fits, letters_valid table.signals w low)
 
-      pub play_taken : (table_play table watch w).outcome ≡ Taken
+      pub play_taken : (table_play table watch w).outcome ≡ Ok tt
       play_taken = ap (λ (p : Played). p.outcome) taken
 
       pub play_follows : (table_play table watch w).watch

@@ -24,7 +24,7 @@ use Rattle.step.specs.Further.Codes.{codes_valid}
 use Rattle.step.proofs.States.{codes_valid_lem, codes_phases}
 use Rattle.step.proofs.Systems.{row_lawful}
 use Rattle.traces.proofs.Runs.{broken_run}
-use Rattle.table.specs.declared.Outcome.TheVariants.{Accepted as Taken}
+use Rattle.std.specs.Prelude.{Ok}
 use Rattle.watcher.specs.declared.Played.{Played}
 use Rattle.pass.specs.declared.Ticked.{Ticked}
 use Rattle.pass.specs.declared.Watch.{Watch}
@@ -57,7 +57,7 @@ module _ (s : ℕ) (rows : List Row) (watch : Watch) (ok : CallValid s rows watc
   stays_accepted = Laws.after_accepted s rows watch w ok h
 
   pub never_refused : (l : ℕ) → l < letters s
-      → (tick_answer s rows (record_after s rows watch w) l).reply.outcome ≡ Taken
+      → (tick_answer s rows (record_after s rows watch w) l).reply.outcome ≡ Ok tt
   never_refused l low = ap (λ (t : Ticked). t.reply.outcome)
       (Laws.tick_taken s rows (record_after s rows watch w) l stays_accepted low)
 
@@ -133,7 +133,7 @@ module _ (table : Table) (watch : Watch) where
   module _ (w : List ℕ) (passes : table_valid table ≡ true)
       (fits : phases_valid (rows_of table) (phases_of watch) ≡ true)
       (low : AllBelow (letters table.signals) w) where
-    pub played : ((table_play table watch w).outcome ≡ Taken)
+    pub played : ((table_play table watch w).outcome ≡ Ok tt)
         × ((table_play table watch w).watch ≡ record_after table.signals (rows_of table) watch w)
     played = (
       Calls.play_taken table watch w passes fits low,

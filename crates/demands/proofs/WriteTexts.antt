@@ -13,7 +13,7 @@ use lib.Seq.{drop-append_seam}
 use Rattle.table.specs.Limits.{most_bytes}
 use Rattle.table.specs.Valid.{table_valid}
 use Rattle.table.specs.Further.Numbers.{number_of, line_of}
-use Rattle.table.specs.declared.Outcome.TheVariants.{Accepted}
+use Rattle.std.specs.Prelude.{Ok}
 use Rattle.table.specs.declared.Table.{Table}
 use Rattle.reader.specs.Grammar.{IsFile}
 use Rattle.reader.specs.Right.{RightReading}
@@ -150,7 +150,7 @@ module _ (table : Table) (buffer : List ℕ) where
       go (is24 passes few short) e = (refl, refl)
       go (is_written passes few room) e = absurd (omega arith)
 
-  pub written_behind : (write_answer table buffer).outcome ≡ Accepted
+  pub written_behind : (write_answer table buffer).outcome ≡ Ok tt
       → let call = write_answer table buffer in
       (take call.length call.buffer ≡ text)
       × (drop call.length call.buffer ≡ drop call.length buffer)
@@ -170,7 +170,7 @@ module _ (bytes : List ℕ) where
   writing_answered = go (read_decided bytes)
     where
       sorted : (table : Table) → IsFile bytes table → Dec (most_bytes < length (file_text table))
-          → RightWriting bytes (after_writing Accepted table)
+          → RightWriting bytes (after_writing (Ok tt) table)
       sorted table file (yes long) =
           rw (lt-ltb most_bytes (length (file_text table)) long) (too_long file long)
       sorted table file (no long) =

@@ -10,7 +10,7 @@ use Rattle.table.specs.Limits.{most_bytes}
 use Rattle.table.specs.Valid.{table_valid}
 use Rattle.table.specs.Further.Numbers.{number_of, line_of}
 use Rattle.table.specs.declared.Name.{Name}
-use Rattle.table.specs.declared.Outcome.TheVariants.{Accepted}
+use Rattle.std.specs.Prelude.{Ok}
 use Rattle.table.specs.declared.Table.{Table}
 use Rattle.conditions.specs.Judge.{IsCondition}
 use Rattle.reader.specs.Grammar.{IsFile}
@@ -142,7 +142,7 @@ module _ (table : Table) (buffer : List ℕ) where
       → ((write_answer table buffer).length ≡ 0) × ((write_answer table buffer).buffer ≡ buffer)
   write_refused = Texts.write_refused table buffer
 
-  pub written_behind : (write_answer table buffer).outcome ≡ Accepted
+  pub written_behind : (write_answer table buffer).outcome ≡ Ok tt
       → let call = write_answer table buffer in
       (take call.length call.buffer ≡ text)
       × (drop call.length call.buffer ≡ drop call.length buffer)

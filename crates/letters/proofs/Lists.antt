@@ -10,8 +10,8 @@ use mathlib.Core.Logic.{◌⊎◌, inl, inr}
 use mathlib.Core.Path.{◌≡◌, refl, sym}
 use lib.Dec.{eqb, leb, ltb}
 use lib.ListN.{length, get_or, take, drop, replicate, length-take, drop_of_length-le}
-use lib.Seq.{drop-cons, get_or-take}
-use Rattle.letters.specs.Lists.{within, every, some, same_bytes}
+use lib.Seq.{drop-cons}
+use Rattle.letters.specs.Lists.{within, every, same_bytes}
 
 -- Both halves of a test that passed.
 pub and_left : (a b : Bool) → (a && b) ≡ true → a ≡ true
@@ -66,15 +66,6 @@ module _ {A : Type 0} (test : A → Bool) where
   unfolding every
   every_end xs i h = rw (drop_of_length-le xs h)
 
-  pub some_drop : (xs : List A) (i : ℕ) (d : A) → i < length xs
-      → some test (drop i xs) ≡ (test (get_or xs i d) || some test (drop (i + 1) xs))
-  unfolding some
-  some_drop xs i d h = rw (drop-cons xs i d h, add-one)
-
-  pub some_end : (xs : List A) (i : ℕ) → length xs ≤ i → some test (drop i xs) ≡ false
-  unfolding some
-  some_end xs i h = rw (drop_of_length-le xs h)
-
   -- Where every element passes, the one at i does.
   pub every_at : (xs : List A) (i : ℕ) (d : A) → every test xs ≡ true → i < length xs
       → test (get_or xs i d) ≡ true
@@ -104,33 +95,10 @@ module _ {A : Type 0} (test : A → Bool) (xs : List A) (i : ℕ) (d : A) (h : i
   pub every_stop : test (get_or xs i d) ≡ false → every test (drop i xs) ≡ false
   every_stop e = rw (every_drop test xs i d h, e)
 
-  pub some_next : test (get_or xs i d) ≡ false
-      → some test (drop i xs) ≡ some test (drop (i + 1) xs)
-  some_next e = rw (some_drop test xs i d h, e)
-
-  pub some_stop : test (get_or xs i d) ≡ true → some test (drop i xs) ≡ true
-  some_stop e = rw (some_drop test xs i d h, e)
-
--- The same turn over the first n elements.
+-- A place among the first n elements.
 pub lt_length_take : {A : Type 0} (n : ℕ) (xs : List A) (i : ℕ) → i < n → i < length xs
     → i < length (take n xs)
 lt_length_take n xs i h k = rw length-take (omega arith)
-
-module _ {A : Type 0} (test : A → Bool) (n : ℕ) (xs : List A) (i : ℕ) (d : A)
-    (h : i < n) (k : i < length xs) where
-  pub every_take_next : test (get_or xs i d) ≡ true
-      → every test (drop i (take n xs)) ≡ every test (drop (i + 1) (take n xs))
-  every_take_next e = every_next test (take n xs) i d (lt_length_take n xs i h k) (rw get_or-take e)
-
-  pub every_take_stop : test (get_or xs i d) ≡ false → every test (drop i (take n xs)) ≡ false
-  every_take_stop e = every_stop test (take n xs) i d (lt_length_take n xs i h k) (rw get_or-take e)
-
-  pub some_take_next : test (get_or xs i d) ≡ false
-      → some test (drop i (take n xs)) ≡ some test (drop (i + 1) (take n xs))
-  some_take_next e = some_next test (take n xs) i d (lt_length_take n xs i h k) (rw get_or-take e)
-
-  pub some_take_stop : test (get_or xs i d) ≡ true → some test (drop i (take n xs)) ≡ true
-  some_take_stop e = some_stop test (take n xs) i d (lt_length_take n xs i h k) (rw get_or-take e)
 
 -- All parts of a test of four that passed.
 pub and_four : (a b c d : Bool) → (a && b && c && d) ≡ true

@@ -13,7 +13,7 @@ pub const SET_BITS: u8 = 64;
 const SET_SIGNALS: u8 = 6;
 
 // The set that has every letter which a set can hold.
-pub const FULL_SET: u64 = 18446744073709551615;
+pub const FULL_SET: u64 = u64::MAX;
 
 // The bits of a letter.
 const LETTER_BITS: u8 = 8;
@@ -22,7 +22,7 @@ const LETTER_BITS: u8 = 8;
 pub fn within(least: usize, most: usize, n: usize) -> bool
     ensures { result ≡ within least most n }
 {
-    (least <= n) & (n <= most)
+    (least..=most).contains(&n)
 }
 
 // Whether a letter is in a set. No letter from `SET_BITS` on is in one.
@@ -41,7 +41,7 @@ pub fn letter_valid(signals: u8, letter: u8) -> bool
     ensures { result ≡ letter_valid signals letter }
 {
     if signals < LETTER_BITS {
-        (letter as u64) < 1u64 << signals
+        u64::from(letter) < 1u64 << signals
     } else {
         true
     }
@@ -85,14 +85,11 @@ pub fn all(signals: u8) -> u64
 pub fn signal_set(signals: u8, k: u8) -> u64
     ensures { result ≡ set_of (width signals) (λ letter. signal_on letter k) }
 {
-    let n = width_of(signals);
     let mut set: u64 = 0;
-    let mut l: u8 = 0;
-    while l < n {
-        if contains(l as u64, k) {
+    for l in 0..u64::from(width_of(signals)) {
+        if contains(l, k) {
             set += 1u64 << l;
         }
-        l += 1;
     }
     set
 }
@@ -106,6 +103,7 @@ pub fn others(signals: u8, set: u64) -> u64
 }
 
 // The letters of a set that are not in another.
+#[tactic(auto, using(crate::proofs::Sets::without_is))]
 pub fn without(set: u64, off: u64) -> u64
     ensures { result ≡ without set off }
 {
@@ -113,10 +111,11 @@ pub fn without(set: u64, off: u64) -> u64
 }
 
 // The least letter of a set; `SET_BITS` if it has none.
+#[tactic(auto, using(crate::proofs::Lowest::zeros_least))]
 pub fn least(set: u64) -> u8
     ensures { result ≡ least_in set }
 {
-    u64::trailing_zeros(set) as u8
+    set.trailing_zeros() as u8
 }
 
 // Whether a set has a letter, and a letter is its least one.

@@ -1,3 +1,2 @@
--- `Changing` serves the loops that go through a list; `Numbers` has the laws for callers.
-pub mod Changing
+-- `Numbers` has the laws for callers.
 pub mod Numbers

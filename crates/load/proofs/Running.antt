@@ -15,7 +15,7 @@ use Rattle.table.specs.Limits.{most_rows}
 use Rattle.table.specs.Refusal.{refused_at}
 use Rattle.table.specs.Row.{no_row}
 use Rattle.table.specs.Valid.{rows_of, table_valid}
-use Rattle.table.specs.declared.Outcome.TheVariants.{Accepted}
+use Rattle.std.specs.Prelude.{Ok}
 use Rattle.table.specs.declared.Row.{Row}
 use Rattle.table.specs.declared.Table.{Table}
 use Rattle.table.proofs.Laws.{table_valid_rows, rows_valid_count}
@@ -138,12 +138,12 @@ module _ (table : Table) (start ticks : ℕ) where
         })
 
     pub running_ends : ticks ≤ tick
-        → record { outcome = Accepted; totals = totals } ≡ run_answer table start ticks
+        → record { outcome = Ok tt; totals = totals } ≡ run_answer table start ticks
     unfolding run_answer answered
     running_ends h =
         let all : tick ≡ ticks = omega (arith, p.low) in
         rw (p.rules, le-leb ticks longest_run p.few)
-        (ap (λ (t : List Totals). record { outcome = Accepted; totals = t })
+        (ap (λ (t : List Totals). record { outcome = Ok tt; totals = t })
         (p.counted ∙ ap (λ (k : ℕ). totals_over s rows (load_of s start k)) all))
 
     -- The next tick.

@@ -15,7 +15,7 @@ use Rattle.table.specs.Refusal.{refused_at}
 use Rattle.table.specs.Row.{no_row}
 use Rattle.table.specs.Valid.{table_valid, rows_of}
 use Rattle.table.specs.Further.Numbers.{number_of, line_of}
-use Rattle.table.specs.declared.Outcome.TheVariants.{Accepted}
+use Rattle.std.specs.Prelude.{Ok}
 use Rattle.table.specs.declared.Row.{Row}
 use Rattle.table.specs.declared.Table.{Table}
 use Rattle.pass.specs.Answer.{answered}
@@ -67,7 +67,7 @@ module _ (table : Table) (start ticks : ℕ) where
   w = load_of s start ticks
 
   abbrev done : Ran
-  done = record { outcome = Accepted; totals = totals_over s rows w }
+  done = record { outcome = Ok tt; totals = totals_over s rows w }
 
   abbrev refused : ℕ → Ran
   refused n = not_run (refused_at n 0)

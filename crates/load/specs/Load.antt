@@ -4,8 +4,8 @@ use Rattle.letters.specs.Letter.{letters, bit}
 use Rattle.table.specs.Limits.{most_rows}
 use Rattle.table.specs.Refusal.{refused_at}
 use Rattle.table.specs.Valid.{table_valid, rows_of}
-use Rattle.table.specs.declared.Outcome.{Outcome}
-use Rattle.table.specs.declared.Outcome.TheVariants.{Accepted}
+use Rattle.table.specs.Refusal.{Outcome}
+use Rattle.std.specs.Prelude.{Ok}
 use Rattle.table.specs.declared.Row.{Row}
 use Rattle.table.specs.declared.Table.{Table}
 use Rattle.traces.specs.Trace.{run}
@@ -87,5 +87,5 @@ unfoldable pub run_answer : Table → ℕ → ℕ → Ran
 run_answer table start ticks =
     let s = table.signals in
     answered (run_number table ticks)
-    (record { outcome = Accepted; totals = totals_over s (rows_of table) (load_of s start ticks) })
+    (record { outcome = Ok tt; totals = totals_over s (rows_of table) (load_of s start ticks) })
     (λ n. not_run (refused_at n 0))

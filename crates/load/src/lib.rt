@@ -7,8 +7,7 @@
 
 mod tally;
 
-ghost use Rattle.std.specs.Prelude.{cond, ◌≡◌, leb, take};
-ghost use Rattle.table.specs.declared.Outcome.TheVariants.{Refused};
+ghost use Rattle.std.specs.Prelude.{cond, ◌≡◌, leb, take, Ok, Err};
 ghost use Rattle.load.specs.Load.{next_number, letter_of, sums_of, longest_run, not_run};
 ghost use Rattle.load.specs.Load.{run_answer};
 
@@ -94,25 +93,25 @@ pub fn sum(totals: [Totals; MOST_ROWS], rows: u8) -> Sums
 
 // What there is of a table that is not run: a refusal, and zeros.
 pub fn refused(refusal: Refusal) -> Ran
-    ensures { result ≡ not_run (Refused refusal) }
+    ensures { result ≡ not_run (Err refusal) }
 {
     Ran {
-        outcome: Outcome::Refused(refusal),
+        outcome: Err(refusal),
         totals: [tally::none(); MOST_ROWS],
     }
 }
 
-// The number of a refusal, or 0: 17 comes before 22.
-fn number_of(valid: bool, ticks: u32) -> u8
-    ensures { result ≡ cond valid (cond (leb ticks longest_run) 0 22) 17 }
+// Whether a run is taken, or the number for which it is refused: 17 comes before 22.
+fn judge(valid: bool, ticks: u32) -> Result<(), u8>
+    ensures { result ≡ cond valid (cond (leb ticks longest_run) (Ok tt) (Err 22)) (Err 17) }
 {
     if !valid {
-        return 17;
+        return Err(17);
     }
     if LONGEST_RUN < ticks {
-        return 22;
+        return Err(22);
     }
-    0
+    Ok(())
 }
 
 // So many ticks of a load that starts from a number, with all rows waiting. Refused with 17, or
@@ -120,12 +119,8 @@ fn number_of(valid: bool, ticks: u32) -> u8
 pub fn run(table: Table, start: u32, ticks: u32) -> Ran
     ensures { result ≡ run_answer table start ticks }
 {
-    let refusal = number_of(table::valid(table), ticks);
-    if refusal != 0 {
-        return refused(Refusal {
-            number: refusal,
-            line: 0,
-        });
+    if let Err(number) = judge(table::valid(table), ticks) {
+        return refused(Refusal { number, line: 0 });
     }
     let mut number = start;
     let mut watch = watcher::start();
@@ -145,7 +140,7 @@ pub fn run(table: Table, start: u32, ticks: u32) -> Ran
         tick += 1;
     }
     Ran {
-        outcome: Outcome::Accepted,
+        outcome: Ok(()),
         totals,
     }
 }

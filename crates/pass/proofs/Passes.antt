@@ -18,7 +18,7 @@ use Rattle.table.specs.Row.{row_valid, no_row}
 use Rattle.table.specs.Valid.{rows_valid}
 use Rattle.table.proofs.Laws.{counts_many}
 use Rattle.table.specs.declared.Row.{Row}
-use Rattle.table.specs.declared.Outcome.TheVariants.{Accepted}
+use Rattle.std.specs.Prelude.{Ok}
 use Rattle.step.specs.declared.Phase.{Phase}
 use Rattle.step.specs.declared.Phase.TheVariants.{Waiting}
 use Rattle.step.specs.Step.{step_row}
@@ -231,7 +231,7 @@ module _ (s : ℕ) (rows : List Row) (watch : Watch) (letter : ℕ)
         ∙ sym (fits_parts rows (phases_of watch) (rw phases_length (omega arith))))
         (ap₂ letter_valid found.signals found.letter)
         (ap₂ (λ (l : List Slot) (e : List Events). record {
-          reply = record { outcome = Accepted; events = e };
+          reply = record { outcome = Ok tt; events = e };
           watch = record { slots = l };
         }) found.slots found.events)
 

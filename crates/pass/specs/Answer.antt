@@ -5,7 +5,7 @@ use Rattle.table.specs.Limits.{most_rows}
 use Rattle.table.specs.Refusal.{refused_at}
 use Rattle.table.specs.Valid.{rows_valid}
 use Rattle.table.specs.declared.Row.{Row}
-use Rattle.table.specs.declared.Outcome.TheVariants.{Accepted}
+use Rattle.std.specs.Prelude.{Ok}
 use Rattle.step.specs.declared.Events.{Events}
 use Rattle.step.specs.Tick.{tick}
 use Rattle.step.specs.Events.{no_events, tick_events}
@@ -35,7 +35,7 @@ refused_with watch n =
 -- All rows moved on by a letter, and what happened to each.
 abbrev pub moved_on : List Row → ℕ → Watch → Ticked
 moved_on rows letter watch = record {
-  reply = record { outcome = Accepted; events = tick_events rows letter (phases_of watch) };
+  reply = record { outcome = Ok tt; events = tick_events rows letter (phases_of watch) };
   watch = watch_of (tick rows letter (phases_of watch));
 }
 

@@ -60,8 +60,8 @@ pub fn unless(same: bool, n: u8) -> u32 {
 // Whether a call gave a number: that of its refusal, of which the line is 0, or 0 if it was taken.
 pub fn same_number(outcome: Outcome, number: u8) -> bool {
     match outcome {
-        Outcome::Accepted => number == 0,
-        Outcome::Refused(refusal) => (refusal.number == number) & (refusal.line == 0),
+        Ok(()) => number == 0,
+        Err(refusal) => (refusal.number == number) & (refusal.line == 0),
     }
 }
 

@@ -9,8 +9,8 @@ use lib.ListN.{length}
 use Rattle.letters.specs.Letter.{width}
 use Rattle.table.specs.Limits.{most_bytes, most_rows}
 use Rattle.table.specs.Further.Numbers.{number_of}
-use Rattle.table.specs.declared.Outcome.{Outcome}
-use Rattle.table.specs.declared.Outcome.TheVariants.{Accepted, Refused}
+use Rattle.table.specs.Refusal.{Outcome}
+use Rattle.std.specs.Prelude.{Ok, Err}
 use Rattle.table.specs.declared.Table.{Table}
 use Rattle.conditions.specs.Condition.{name_of}
 use Rattle.rows.proofs.Rules.{fault_among}
@@ -56,8 +56,8 @@ read_decided bytes = right_decided bytes (read_answer bytes) (read_answered byte
 
 -- Which table.
 abbrev is_accepted : Outcome → Bool
-is_accepted Accepted = true
-is_accepted (Refused refusal) = false
+is_accepted (Ok _) = true
+is_accepted (Err refusal) = false
 
 module _ (bytes : List ℕ) (table : Table) where
   pub accepted_file : read_answer bytes ≡ accepted table → IsFile bytes table

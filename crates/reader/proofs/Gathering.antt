@@ -12,7 +12,7 @@ use Rattle.letters.proofs.Filling.{Filled, filled_all}
 use Rattle.table.specs.Limits.{most_rows}
 use Rattle.table.specs.Row.{zero_row}
 use Rattle.table.specs.Valid.{table_from}
-use Rattle.table.specs.declared.Outcome.TheVariants.{Accepted}
+use Rattle.std.specs.Prelude.{Ok}
 use Rattle.table.specs.declared.Name.{Name}
 use Rattle.table.specs.declared.Row.{Row}
 use Rattle.text.specs.Lines.{LF}
@@ -199,7 +199,7 @@ module _ (names : List Name) (signals : ℕ) (version : Version) (rest : List �
   pub rows_accepted : 0 < length rest → (rows : List Row)
       → rows_from names signals version 0 (lines rest) ≡ rows_read rows
       → rows_answer names signals version (lines rest)
-      ≡ record { outcome = Accepted; table = table_from signals names rows }
+      ≡ record { outcome = Ok tt; table = table_from signals names rows }
   rows_accepted h rows e = rows_some h ∙ ap (rows_reading names signals version) e
 
 -- The row of the sets and bounds at a place. When every place is filled, they are those gathered.

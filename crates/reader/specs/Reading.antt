@@ -2,13 +2,13 @@
 use Rattle.std.specs.Prelude.{ℕ, []}
 use Rattle.table.specs.Refusal.{refused_at}
 use Rattle.table.specs.Valid.{table_from}
-use Rattle.table.specs.declared.Outcome.TheVariants.{Accepted}
+use Rattle.std.specs.Prelude.{Ok}
 use Rattle.table.specs.declared.Table.{Table}
 use Rattle.header.specs.Header.{names_from}
 use Rattle.reader.specs.declared.Reading.{Reading}
 
 abbrev pub accepted : Table → Reading
-accepted table = record { outcome = Accepted; table = table }
+accepted table = record { outcome = Ok tt; table = table }
 
 -- "A refusal gives number and line .. The reader's table is then empty."
 abbrev pub empty_table : Table

@@ -44,7 +44,7 @@ fn refused(number: u8, line: u8) -> Reading
 {
     let table = empty();
     Reading {
-        outcome: Outcome::Refused(Refusal { number, line }),
+        outcome: Err(Refusal { number, line }),
         table,
     }
 }
@@ -96,7 +96,7 @@ fn read_rows(rest: &[u8], names: [Name; MOST_SIGNALS], signals: u8, version: Ver
     }
     let rows = rows_of(sets, bounds);
     Reading {
-        outcome: Outcome::Accepted,
+        outcome: Ok(()),
         table: Table {
             signals,
             names,

@@ -13,7 +13,7 @@ ghost use Rattle.step.specs.Inner.Check.{check_of};
 use table::{AC, AEE, ASE, Row, TC, TEE, TSE};
 
 // A row is waiting, or in trigger, delay or action with its elapsed ticks, or broken.
-#[derive(Clone, Copy)]
+#[derive(Clone, Copy, Debug, PartialEq, Eq)]
 pub enum Phase {
     Waiting,
     Trigger(u8),
@@ -24,7 +24,7 @@ pub enum Phase {
 
 // What can happen to a row at a tick: its trigger starts, is realised or is aborted; its action
 // starts (`acting`) or is completed; the row becomes broken.
-#[derive(Clone, Copy)]
+#[derive(Clone, Copy, Debug, PartialEq, Eq)]
 pub struct Events {
     pub started: bool,
     pub realised: bool,
@@ -35,14 +35,14 @@ pub struct Events {
 }
 
 // What one letter does to a row.
-#[derive(Clone, Copy)]
+#[derive(Clone, Copy, Debug, PartialEq, Eq)]
 pub struct Stepped {
     pub phase: Phase,
     pub events: Events,
 }
 
 // How the check of a phase ends: the phase is done, continues with so many elapsed ticks, or fails.
-#[derive(Clone, Copy)]
+#[derive(Clone, Copy, Debug, PartialEq, Eq)]
 pub enum Check {
     Done,
     Continue(u8),

@@ -1,21 +1,28 @@
 -- Laws of names and of table values. A loop's turn at place i: `-next` where it goes on, `-stop`
 -- where it settles the answer, `-end` past the last place. Assumes nothing.
-use Prim.Native.Nat.{ℕ, suc, ◌+◌, ◌-◌, ◌<◌, ◌≤◌}
+use Prim.Native.Nat.{ℕ, zero, suc, ◌+◌, ◌-◌, ◌<◌, ◌≤◌}
+use native.Mathlib.Decide.{dec_lt}
 use native.Mathlib.Numerals.{add-one}
 use native.Mathlib.Omega.{arith}
-use mathlib.Core.Bool.{Bool, true, false, ◌&&◌, not, cond, and-false}
+use mathlib.Core.Bool.{Bool, true, false, ◌&&◌, not, cond, and-false, true≢false}
 use mathlib.Core.List.{List, [], ◌∷◌}
-use mathlib.Core.Path.{◌≡◌, refl}
+use mathlib.Core.Path.{◌≡◌, refl, sym, ◌∙◌}
 use borrow.Author.Tests.{lt-leb}
-use lib.ListN.{length, get_or, take, drop, replicate, drop_of_length-le}
-use lib.Seq.{drop-cons, get_or-take, take_at, drop_at}
+use Rattle.std.specs.List.{prefix_len}
+use Rattle.std.proofs.lemmas.List.Recursion.{same_from_clauses}
+use lib.ListN.{length, get_or, take, drop, replicate, drop_of_length-le, length-take, length-replicate}
+use lib.ListN.{get_or-replicate}
+use lib.Pointwise.{pointwise}
+use lib.Seq.{drop-cons, get_or-take, take_at, drop_at, ext_get_or}
+use Rattle.std.specs.Array.{AllOfLen}
+use lib.Dec.{eqb}
 use Rattle.letters.specs.Letter.{set_valid}
 use Rattle.letters.specs.Lists.{within, every, some}
 use Rattle.letters.proofs.Lists.{and_left, and_right, and_four, lt_length_take, within_bounds}
 use Rattle.letters.proofs.Lists.{within_true, every_replicate}
-use Rattle.table.specs.Limits.{most_rows, most_signals, most_ticks}
-use Rattle.table.specs.Row.{bounds_valid, row_valid, row_unused, zero_row}
-use Rattle.table.specs.Name.{is_lowercase, name_run, same_name, all_distinct}
+use Rattle.table.specs.Limits.{most_rows, most_signals, most_ticks, conditions, name_length}
+use Rattle.table.specs.Row.{bounds_valid, row_valid, row_unused, zero_row, is_zero}
+use Rattle.table.specs.Name.{is_lowercase, name_run, name_unused, same_name, all_distinct}
 use Rattle.table.specs.Valid.{counts_allowed, rows_valid, names_valid, rows_of, table_from}
 use Rattle.table.specs.Valid.{table_valid}
 use Rattle.table.specs.declared.Name.{Name}
@@ -32,6 +39,13 @@ name_run_le (b ∷ xs) = go (is_lowercase b) (name_run_le xs)
     go true h = omega arith
     go false h = omega arith
 
+-- They are counted as the library counts a front that passes a test.
+pub name_run_prefix : (xs : List ℕ) → prefix_len is_lowercase xs ≡ name_run xs
+unfolding name_run
+name_run_prefix =
+    same_from_clauses (prefix_len is_lowercase) name_run (λ b n. cond (is_lowercase b) (suc n) 0)
+    refl (λ x xs. grind arith) (λ _ _. refl)
+
 module _ (xs : List ℕ) (i : ℕ) where
   pub name_run_next : i < length xs → is_lowercase (get_or xs i 0) ≡ true
       → name_run (drop i xs) ≡ name_run (drop (i + 1) xs) + 1
@@ -47,24 +61,43 @@ module _ (xs : List ℕ) (i : ℕ) where
   name_run_end h = rw (drop_of_length-le xs h)
 
 -- No name twice among the first n.
-module _ (n : ℕ) (xs : List Name) (i : ℕ) (d : Name) (h : i < n) (k : i < length xs) where
-  all_distinct_drop : all_distinct (drop i (take n xs))
-      ≡ (not (some (same_name (get_or xs i d)) (drop (i + 1) (take n xs)))
-      && all_distinct (drop (i + 1) (take n xs)))
+module _ (n : ℕ) (xs : List Name) (i : ℕ) (d : Name) where
+  abbrev later : Bool
+  later = some (same_name (get_or xs i d)) (drop (i + 1) (take n xs))
+
+  all_distinct_drop : i < n → i < length xs
+      → all_distinct (drop i (take n xs)) ≡ (not later && all_distinct (drop (i + 1) (take n xs)))
   unfolding all_distinct
-  all_distinct_drop = rw (drop-cons (take n xs) i d (lt_length_take n xs i h k), get_or-take, add-one)
+  all_distinct_drop h k =
+      rw (drop-cons (take n xs) i d (lt_length_take n xs i h k), get_or-take, add-one)
 
-  pub all_distinct_next : some (same_name (get_or xs i d)) (drop (i + 1) (take n xs)) ≡ false
+  past : n ≤ i → (j : ℕ) → i ≤ j → drop j (take n xs) ≡ []
+  past h j low = drop_of_length-le (take n xs) (rw length-take (omega arith))
+
+  pub all_distinct_next : i < length xs → later ≡ false
       → all_distinct (drop i (take n xs)) ≡ all_distinct (drop (i + 1) (take n xs))
-  all_distinct_next e = rw (all_distinct_drop, e)
+  all_distinct_next k e = go (dec_lt i n)
+    where
+      go : Dec (i < n) → all_distinct (drop i (take n xs)) ≡ all_distinct (drop (i + 1) (take n xs))
+      go (yes h) = rw (all_distinct_drop h k, e)
+      go (no h) = rw (past (omega arith) i (omega arith), past (omega arith) (i + 1) (omega arith))
 
-  pub all_distinct_stop : some (same_name (get_or xs i d)) (drop (i + 1) (take n xs)) ≡ true
+  pub all_distinct_stop : i < length xs → later ≡ true
       → all_distinct (drop i (take n xs)) ≡ false
-  all_distinct_stop e = rw (all_distinct_drop, e)
+  unfolding some
+  all_distinct_stop k e = go (dec_lt i n)
+    where
+      go : Dec (i < n) → all_distinct (drop i (take n xs)) ≡ false
+      go (yes h) = rw (all_distinct_drop h k, e)
+      go (no h) = absurd (true≢false (sym e ∙ rw (past (omega arith) (i + 1) (omega arith))))
 
-pub all_distinct_end : (xs : List Name) (i : ℕ) → length xs ≤ i → all_distinct (drop i xs) ≡ true
-unfolding all_distinct
-all_distinct_end xs i h = rw (drop_of_length-le xs h)
+  pub all_distinct_end : length xs ≤ i → all_distinct (drop i (take n xs)) ≡ true
+  unfolding all_distinct
+  all_distinct_end h =
+      let few : length (take n xs) ≤ i = rw length-take (omega arith) in
+      rw (drop_of_length-le (take n xs) few)
+
+pub ruleset distinct_turns = (all_distinct_next, all_distinct_stop, all_distinct_end)
 
 -- The bounds of a row that a file can have.
 pub record RowBounds (r : Row) : Type 0 where
@@ -161,6 +194,54 @@ module _ (t : Table) (fits : table_valid t ≡ true) where
 
   pub table_valid_unused : every row_unused (drop t.count t.rows) ≡ true
   table_valid_unused = table_valid_parts.3
+
+-- A row that is equal to one of zeros, as the derived `==` tests it, is unused.
+zeros_alike : (n : ℕ) (xs : List ℕ) → length xs ≡ n
+    → pointwise eqb xs (replicate n 0) ≡ every is_zero xs
+unfolding every
+zeros_alike zero [] e = refl
+zeros_alike zero (x ∷ xs) e = absurd (omega arith)
+zeros_alike (suc n) [] e = absurd (omega arith)
+zeros_alike (suc n) (x ∷ xs) e = rw (zeros_alike n xs (omega arith))
+
+tests_round : (a b c d e f g : Bool)
+    → (a && (b && (c && (d && (e && (f && g)))))) ≡ (b && c && d && e && f && g && a)
+tests_round a b c d e f g = grind arith
+
+all_zeros : (n : ℕ) (xs : List ℕ) → AllOfLen (λ x. x ≡ 0) xs n → xs ≡ replicate n 0
+all_zeros n xs z =
+    ext_get_or 0 xs (replicate n 0) (z.long ∙ sym (length-replicate n 0))
+    (λ i low. z.at i 0 (omega (arith, z.long)) ∙ sym (get_or-replicate n i 0 0 (omega (arith, z.long))))
+
+-- What the derived `Default` makes, and the derived `==` with it.
+pub name_alike : (name none : Name) → length name.chars ≡ name_length
+    → AllOfLen (λ x. x ≡ 0) none.chars name_length
+    → pointwise eqb name.chars none.chars ≡ name_unused name
+unfolding name_unused
+name_alike name none e z =
+    rw (all_zeros name_length none.chars z) (zeros_alike name_length name.chars e)
+
+pub default_row : (z : Row) → AllOfLen (λ x. x ≡ 0) z.sets conditions × ((z.tmin ≡ 0)
+    × ((z.tmax ≡ 0) × ((z.lmin ≡ 0) × ((z.lmax ≡ 0) × ((z.amin ≡ 0) × (z.amax ≡ 0))))))
+    → z ≡ zero_row
+default_row z (sets, (tmin, (tmax, (lmin, (lmax, (amin, amax)))))) = λ i. record {
+  sets = all_zeros conditions z.sets sets i;
+  tmin = tmin i;
+  tmax = tmax i;
+  lmin = lmin i;
+  lmax = lmax i;
+  amin = amin i;
+  amax = amax i;
+}
+
+pub row_alike : (r : Row) → length r.sets ≡ conditions
+    → (pointwise eqb r.sets zero_row.sets && (is_zero r.tmin && (is_zero r.tmax && (is_zero r.lmin
+    && (is_zero r.lmax && (is_zero r.amin && is_zero r.amax)))))) ≡ row_unused r
+unfolding row_unused
+row_alike r e =
+    rw (zeros_alike conditions r.sets e)
+    (tests_round (every is_zero r.sets) (is_zero r.tmin) (is_zero r.tmax) (is_zero r.lmin)
+    (is_zero r.lmax) (is_zero r.amin) (is_zero r.amax))
 
 pub zero_unused : row_unused zero_row ≡ true
 unfolding row_unused every

@@ -38,7 +38,7 @@ pub const AEE: usize = 5;
 pub const FIELDS: usize = 12;
 
 // A row: its six conditions as sets of letters, and the bounds of trigger, delay and action.
-#[derive(Clone, Copy, Debug, PartialEq, Eq)]
+#[derive(Clone, Copy, Debug, Default, PartialEq, Eq)]
 pub struct Row {
     pub sets: [u64; CONDITIONS],
     pub tmin: u8,
@@ -50,20 +50,20 @@ pub struct Row {
 }
 
 // A signal's name: its letters a-z, then zeros.
-#[derive(Clone, Copy, Debug, PartialEq, Eq)]
+#[derive(Clone, Copy, Debug, Default, PartialEq, Eq)]
 pub struct Name {
     pub chars: [u8; NAME_CHARS],
 }
 
 // The signals of a table: the first `count` names are used.
-#[derive(Clone, Copy, Debug, PartialEq, Eq)]
+#[derive(Clone, Copy, Debug, Default, PartialEq, Eq)]
 pub struct Signals {
     pub count: u8,
     pub names: [Name; MOST_SIGNALS],
 }
 
 // A table value. The first `signals` names and the first `count` rows are used; the others are 0.
-#[derive(Clone, Copy, Debug, PartialEq, Eq)]
+#[derive(Clone, Copy, Debug, Default, PartialEq, Eq)]
 pub struct Table {
     pub signals: u8,
     pub names: [Name; MOST_SIGNALS],
@@ -82,24 +82,23 @@ pub struct Refusal {
 pub type Outcome = Result<(), Refusal>;
 
 // Whether a file can have so many signals and so many rows.
+#[tactic(auto, unfolding(crate::specs::Valid::counts_allowed))]
 pub fn counts_allowed(signals: u8, count: usize) -> bool
     ensures { result ≡ counts_allowed signals count }
 {
-    letters::within(1, MOST_SIGNALS, signals as usize) & letters::within(1, MOST_ROWS, count)
+    (1..=MOST_SIGNALS).contains(&usize::from(signals)) & (1..=MOST_ROWS).contains(&count)
 }
 
 // Whether number 17 lets a table value by.
 pub fn valid(table: Table) -> bool
     ensures { result ≡ table_valid table }
 {
-    let signals = table.signals as usize;
-    let count = table.count as usize;
-    let names = table.names;
-    let rows = table.rows;
+    let signals = usize::from(table.signals);
+    let count = usize::from(table.count);
     counts_allowed(table.signals, count)
-        & names::used_valid(names, signals)
-        & names::distinct(names, signals)
-        & names::rest_unused(names, signals)
-        & rows::used_valid(table.signals, rows, count)
-        & rows::rest_unused(rows, count)
+        & names::used_valid(table.names, signals)
+        & names::distinct(table.names, signals)
+        & names::rest_unused(table.names, signals)
+        & rows::used_valid(table.signals, table.rows, count)
+        & rows::rest_unused(table.rows, count)
 }

@@ -11,129 +11,86 @@ use crate::{MOST_SIGNALS, NAME_CHARS, Name};
 pub fn is_lowercase(b: u8) -> bool
     ensures { result ≡ is_lowercase b }
 {
-    (b'a' <= b) & (b <= b'z')
+    b.is_ascii_lowercase()
 }
 
 // How many letters a name begins with.
+#[tactic(auto, using(crate::proofs::Laws::name_run_prefix))]
 pub fn name_run(chars: [u8; NAME_CHARS]) -> usize
     ensures { result ≡ name_run chars }
 {
-    let mut i: usize = 0;
-    while i < NAME_CHARS {
-        if !is_lowercase(chars[i]) {
-            return i;
-        }
-        i += 1;
-    }
-    i
+    chars.iter().take_while(|b| is_lowercase(**b)).count()
 }
 
 // Whether a name is 0 from place n on.
+#[tactic(auto, unfolding(letters::specs::Lists::every))]
 fn zero_from(chars: [u8; NAME_CHARS], n: usize) -> bool
     ensures { result ≡ every is_zero (drop n chars) }
 {
-    let mut i = n;
-    while i < NAME_CHARS {
-        if chars[i] != 0 {
-            return false;
-        }
-        i += 1;
-    }
-    true
+    chars.iter().skip(n).all(|b| *b == 0)
 }
 
 // Whether a name is 1 to 8 letters a-z, then zeros.
+#[tactic(auto, unfolding(crate::specs::Name::name_valid))]
 pub fn name_valid(name: Name) -> bool
     ensures { result ≡ name_valid name }
 {
-    let chars = name.chars;
-    let run = name_run(chars);
-    (1 <= run) & zero_from(chars, run)
+    let run = name_run(name.chars);
+    (1 <= run) & zero_from(name.chars, run)
 }
 
 // Whether everything in a name is 0.
 pub fn name_unused(name: Name) -> bool
     ensures { result ≡ name_unused name }
 {
-    let chars = name.chars;
-    zero_from(chars, 0)
+    name == Name::default()
 }
 
 // Whether two names are the same.
+#[tactic(auto, unfolding(letters::specs::Lists::same_bytes))]
 pub fn same_name(a: Name, b: Name) -> bool
     ensures { result ≡ same_name a b }
 {
-    let mut i: usize = 0;
-    while i < NAME_CHARS {
-        if a.chars[i] != b.chars[i] {
-            return false;
-        }
-        i += 1;
-    }
-    true
+    a == b
 }
 
 // Whether the first n names are 1 to 8 letters each.
+#[tactic(auto, unfolding(letters::specs::Lists::every))]
 pub fn used_valid(names: [Name; MOST_SIGNALS], n: usize) -> bool
     ensures { result ≡ every name_valid (take n names) }
 {
-    let mut i: usize = 0;
-    while i < n {
-        if MOST_SIGNALS <= i {
-            return true;
-        }
-        if !name_valid(names[i]) {
-            return false;
-        }
-        i += 1;
-    }
-    true
+    names.iter().take(n).all(|name| name_valid(*name))
 }
 
 // Whether a name is one of the first n, from place `from` on.
-fn stands_from(names: [Name; MOST_SIGNALS], n: usize, from: usize, name: Name) -> bool
-    ensures { result ≡ some (same_name name) (drop from (take n names)) }
+#[tactic(auto, unfolding(letters::specs::Lists::some))]
+fn stands_from(names: &[Name; MOST_SIGNALS], n: usize, from: usize, name: Name) -> bool
+    ensures { result ≡ some (same_name name) (drop from (take n names.now)) }
 {
-    let mut i = from;
-    while i < n {
-        if MOST_SIGNALS <= i {
-            return false;
-        }
-        if same_name(name, names[i]) {
-            return true;
-        }
-        i += 1;
-    }
-    false
+    names
+        .iter()
+        .take(n)
+        .skip(from)
+        .any(|other| same_name(name, *other))
 }
 
 // Whether no name stands twice among the first n.
+#[tactic(auto, using(crate::proofs::Laws::distinct_turns))]
 pub fn distinct(names: [Name; MOST_SIGNALS], n: usize) -> bool
     ensures { result ≡ all_distinct (take n names) }
 {
-    let mut i: usize = 0;
-    while i < n {
-        if MOST_SIGNALS <= i {
-            return true;
-        }
-        if stands_from(names, n, i + 1, names[i]) {
+    for (i, name) in names.iter().enumerate() {
+        if stands_from(&names, n, i + 1, *name) {
             return false;
         }
-        i += 1;
     }
     true
 }
 
 // Whether the names from place n on are 0.
+#[tactic(auto, unfolding(letters::specs::Lists::every))]
 pub fn rest_unused(names: [Name; MOST_SIGNALS], n: usize) -> bool
     ensures { result ≡ every name_unused (drop n names) }
 {
-    let mut i = n;
-    while i < MOST_SIGNALS {
-        if !name_unused(names[i]) {
-            return false;
-        }
-        i += 1;
-    }
-    true
+    names.iter().skip(n).all(|name| name_unused(*name))
 }

@@ -26,8 +26,8 @@ pub(crate) fn print_sums(rt: &impl Print, sums: Sums) -> io::Result<()> {
 // `  refused 22 line 0` if the run was refused, and nothing else.
 fn print_outcome(rt: &impl Print, outcome: Outcome) -> io::Result<()> {
     match outcome {
-        Outcome::Accepted => Ok(()),
-        Outcome::Refused(Refusal { number, line }) => println!(rt;
+        Ok(()) => Ok(()),
+        Err(Refusal { number, line }) => println!(rt;
             "  refused {number} line {line}"
         ),
     }

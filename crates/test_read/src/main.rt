@@ -6,7 +6,7 @@ use input::Input;
 use std::fs::File;
 use std::rt::Files;
 use std::{env, io};
-use table::{Name, Outcome, Refusal, Row, Table};
+use table::{Name, Refusal, Row, Table};
 
 // The letters up to a 0.
 #[tactic(auto, using(text::proofs::Splits::front_length))]
@@ -61,8 +61,8 @@ fn is_empty(table: Table) -> bool {
 fn show(rt: &impl Print, bytes: &[u8]) -> io::Result<()> {
     let read = reader::read(bytes);
     match read.outcome {
-        Outcome::Accepted => print_table(rt, read.table),
-        Outcome::Refused(Refusal { number, line }) => {
+        Ok(()) => print_table(rt, read.table),
+        Err(Refusal { number, line }) => {
             let empty = if is_empty(read.table) {
                 "empty"
             } else {

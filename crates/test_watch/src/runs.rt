@@ -152,7 +152,7 @@ pub(crate) fn by_ticks(lent: bool, table: Table, watch: Watch, trace: &[u8]) -> 
     let mut run = tested(lent, table, watch);
     for letter in trace {
         run = next_tick(lent, table, run, *letter);
-        let Outcome::Accepted = run.outcome else {
+        let Ok(()) = run.outcome else {
             return stopped(run, watch);
         };
     }

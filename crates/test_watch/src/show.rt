@@ -9,8 +9,8 @@ use table::{MOST_ROWS, Outcome, Refusal};
 // `refused 19 line 0, ` if the call is refused, and nothing else.
 pub(crate) fn print_outcome(rt: &impl Print, outcome: Outcome) -> io::Result<()> {
     match outcome {
-        Outcome::Accepted => Ok(()),
-        Outcome::Refused(Refusal { number, line }) => print!(rt; "refused {number} line {line}, "),
+        Ok(()) => Ok(()),
+        Err(Refusal { number, line }) => print!(rt; "refused {number} line {line}, "),
     }
 }
 

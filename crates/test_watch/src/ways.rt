@@ -32,8 +32,8 @@ fn counted(tally: Tally, alike: bool) -> Tally {
 // Number and line of a refusal, and 0 for a call that was taken.
 fn refusal_of(outcome: Outcome) -> Refusal {
     match outcome {
-        Outcome::Accepted => Refusal { number: 0, line: 0 },
-        Outcome::Refused(refusal) => refusal,
+        Ok(()) => Refusal { number: 0, line: 0 },
+        Err(refusal) => refusal,
     }
 }
 
@@ -156,7 +156,7 @@ fn spoilt_number(run: Run) -> Run {
     let watch = run.watch;
     let events = run.events;
     let counts = run.counts;
-    let outcome = Outcome::Refused(Refusal {
+    let outcome = Err(Refusal {
         number: 18,
         line: 0,
     });

@@ -36,8 +36,8 @@ fn unchanged(bytes: [u8; ROOM], from: usize) -> bool {
 
 fn print_outcome(rt: &impl Print, outcome: Outcome) -> io::Result<()> {
     match outcome {
-        Outcome::Accepted => print!(rt; ": written"),
-        Outcome::Refused(Refusal { number, line }) => print!(rt; ": refused {number} line {line}"),
+        Ok(()) => print!(rt; ": written"),
+        Err(Refusal { number, line }) => print!(rt; ": refused {number} line {line}"),
     }
 }
 

@@ -7,8 +7,8 @@ use mathlib.Core.List.{head-eq_of_cons-eq, tail-eq_of_cons-eq}
 use mathlib.Core.Path.{◌≡◌, refl, sym, ap, ap₂, ◌∙◌}
 use lib.ListN.{length, take}
 use lib.Seq.{length-take-le}
-use Rattle.table.specs.declared.Outcome.{Outcome}
-use Rattle.table.specs.declared.Outcome.TheVariants.{Accepted, Refused}
+use Rattle.table.specs.Refusal.{Outcome}
+use Rattle.std.specs.Prelude.{Ok, Err}
 use Rattle.text.specs.Bounds.{decimal}
 use Rattle.text.specs.Bytes.{bytes}
 use Rattle.text.specs.Lines.{LF, count, Free, none, and}
@@ -37,8 +37,8 @@ totals_free r (t ∷ more) sums =
 
 run_free : (rows : ℕ) (outcome : Outcome) (all : List Totals) → Free LF (run_lines rows outcome all)
 unfolding run_lines
-run_free rows (Refused r) all = and (refused_free r.number r.line) none
-run_free rows Accepted all = totals_free 1 (take rows all) (sums_of (take rows all))
+run_free rows (Err r) all = and (refused_free r.number r.line) none
+run_free rows (Ok _) all = totals_free 1 (take rows all) (sums_of (take rows all))
 
 -- Lines that are the same are of the same totals.
 line_injective : (r : ℕ) (t u : Totals) → totals_line r t ≡ totals_line r u → t ≡ u
@@ -76,8 +76,8 @@ second_byte r (t ∷ more) sums = refl
 -- their totals.
 pub record SameTotals (rows rows' : ℕ) (one other : Ran) : Type 0 where
   pub outcome : one.outcome ≡ other.outcome
-  pub size : one.outcome ≡ Accepted → rows ≡ rows'
-  pub totals : one.outcome ≡ Accepted → take rows one.totals ≡ take rows' other.totals
+  pub size : one.outcome ≡ Ok tt → rows ≡ rows'
+  pub totals : one.outcome ≡ Ok tt → take rows one.totals ≡ take rows' other.totals
 
 module _ (rows rows' : ℕ) where
   lines_injective : (outcome outcome' : Outcome) (all all' : List Totals) → rows ≤ length all
@@ -85,18 +85,18 @@ module _ (rows rows' : ℕ) where
       → SameTotals rows rows' (record { outcome = outcome; totals = all })
       (record { outcome = outcome'; totals = all' })
   unfolding run_lines
-  lines_injective (Refused r) (Refused s) all all' h g e = record {
-    outcome = ap Refused (refused_injective r s (head-eq_of_cons-eq e));
+  lines_injective (Err r) (Err s) all all' h g e = record {
+    outcome = ap Err (refused_injective r s (head-eq_of_cons-eq e));
     size = λ accepted. absurd (let z : ◌≡◌ {A = ℕ} 0 1 = cc in omega arith);
     totals = λ accepted. absurd (let z : ◌≡◌ {A = ℕ} 0 1 = cc in omega arith);
   }
-  lines_injective (Refused r) Accepted all all' h g e =
+  lines_injective (Err r) (Ok _) all all' h g e =
       let used = take rows' all' in
       absurd (omega (arith, ap (byte_at 0 1) e, second_byte 1 used (sums_of used)))
-  lines_injective Accepted (Refused s) all all' h g e =
+  lines_injective (Ok _) (Err s) all all' h g e =
       let used = take rows all in
       absurd (omega (arith, ap (byte_at 0 1) e, second_byte 1 used (sums_of used)))
-  lines_injective Accepted Accepted all all' h g e =
+  lines_injective (Ok _) (Ok _) all all' h g e =
       let same = rows_injective 1 (take rows all) (take rows' all') _ _ e in
       record {
         outcome = refl;

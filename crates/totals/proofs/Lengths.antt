@@ -8,8 +8,8 @@ use lib.Seq.{get_or-take}
 use Rattle.text.specs.Lines.{ended, All, none, and}
 use Rattle.text.proofs.Decimals.{decimal_length}
 use Rattle.table.specs.Limits.{most_rows}
-use Rattle.table.specs.declared.Outcome.{Outcome}
-use Rattle.table.specs.declared.Outcome.TheVariants.{Accepted, Refused}
+use Rattle.table.specs.Refusal.{Outcome}
+use Rattle.std.specs.Prelude.{Ok, Err}
 use Rattle.table.specs.declared.Refusal.{Refusal}
 use Rattle.load.specs.Load.{no_totals, sum_of, sums_of}
 use Rattle.load.specs.declared.Ran.{Ran}
@@ -89,7 +89,7 @@ sums_length all few small =
 -- No more rows than a table can have, and numbers of few digits.
 pub record FewTotals (rows : ℕ) (ran : Ran) : Type 0 where
   pub rules : rows ≤ most_rows
-  pub refusal : (r : Refusal) → ran.outcome ≡ Refused r → (r.number < 1000) × (r.line < 1000)
+  pub refusal : (r : Refusal) → ran.outcome ≡ Err r → (r.number < 1000) × (r.line < 1000)
   pub totals : AllSmall rows ran.totals
 
 pub totals_short : (rows : ℕ) (ran : Ran) → FewTotals rows ran
@@ -98,12 +98,12 @@ unfolding run_lines
 totals_short rows ran few = go ran.outcome few.refusal
   where
     go : (outcome : Outcome)
-        → ((r : Refusal) → outcome ≡ Refused r → (r.number < 1000) × (r.line < 1000))
+        → ((r : Refusal) → outcome ≡ Err r → (r.number < 1000) × (r.line < 1000))
         → length (ended (run_lines rows outcome ran.totals)) ≤ 1000
-    go (Refused r) small =
+    go (Err r) small =
         let low = small r refl in
         let line = refused_length r.number r.line low.0 low.1 in omega arith
-    go Accepted small =
+    go (Ok _) small =
         let used = take rows ran.totals in
         let most : length used ≤ rows = rw length-take (omega arith) in
         let each : AllSmall (length used) used = λ j h.

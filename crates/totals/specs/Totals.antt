@@ -1,7 +1,7 @@
 -- What `loadtable` prints of a table: document 02, ask 5.
 use Rattle.std.specs.Prelude.{ℕ, suc, List, [], ◌∷◌, ◌++◌, take}
-use Rattle.table.specs.declared.Outcome.{Outcome}
-use Rattle.table.specs.declared.Outcome.TheVariants.{Accepted, Refused}
+use Rattle.table.specs.Refusal.{Outcome}
+use Rattle.std.specs.Prelude.{Ok, Err}
 use Rattle.text.specs.Bounds.{decimal}
 use Rattle.text.specs.Bytes.{bytes}
 use Rattle.text.specs.Lines.{ended}
@@ -30,8 +30,8 @@ sums_line sums =
 
 -- The lines of the first rows of a run. "A refused table prints its refused line alone."
 unfoldable pub run_lines : ℕ → Outcome → List Totals → List (List ℕ)
-run_lines rows (Refused r) all = refused_line r.number r.line ∷ []
-run_lines rows Accepted all =
+run_lines rows (Err r) all = refused_line r.number r.line ∷ []
+run_lines rows (Ok _) all =
     let used = take rows all in totals_lines 1 used ++ sums_line (sums_of used) ∷ []
 
 abbrev pub run_bytes : ℕ → Ran → List ℕ

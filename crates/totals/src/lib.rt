@@ -10,7 +10,7 @@ ghost use Rattle.lines.specs.Line.{spaced};
 ghost use Rattle.totals.specs.Totals.{totals_line, totals_lines, run_bytes};
 
 use load::{Ran, Totals};
-use table::{MOST_ROWS, Outcome};
+use table::MOST_ROWS;
 use text::LF;
 
 // Four numbers, each after a space, and the line's end.
@@ -72,8 +72,8 @@ pub fn write(ran: Ran, rows: u8, out: &mut [u8]) -> usize
     let outcome = ran.outcome;
     let totals = ran.totals;
     match outcome {
-        Outcome::Refused(refusal) => lines::write_refused(refusal, out),
-        Outcome::Accepted => {
+        Err(refusal) => lines::write_refused(refusal, out),
+        Ok(()) => {
             let at = row_lines(out, totals, rows);
             let first = put::word(out, at, b"total");
             let sums = load::sum(totals, rows);

@@ -4,12 +4,12 @@ use native.Mathlib.Decide.{dec_lt}
 use native.Mathlib.Nat.{zero-add}
 use native.Mathlib.Omega.{arith}
 use mathlib.Core.List.{List, [], ◌∷◌, ◌++◌}
-use mathlib.Core.Path.{◌≡◌, refl, ap, ◌∙◌}
+use mathlib.Core.Path.{◌≡◌, refl, sym, ap, ◌∙◌}
 use lib.ListN.{length, get_or, length-replicate, get_or-replicate}
 use lib.ListN.{get_or-eq_default}
+use lib.Seq.{ext_get_or}
 use Rattle.table.specs.Limits.{most_rows}
 use Rattle.letters.specs.Letter.{bit}
-use Rattle.letters.proofs.Filling.{Filled, filled_all}
 use Rattle.table.specs.declared.Row.{Row}
 use Rattle.traces.specs.Trace.{run}
 use Rattle.step.specs.declared.Phase.{Phase}
@@ -66,17 +66,17 @@ added_place (counts ∷ all) (e ∷ events) zero h k = refl
 added_place (counts ∷ all) (e ∷ events) (suc i) h k =
     added_place all events i (omega arith) (omega arith)
 
--- The counts of row j with one tick's events more. When every place is filled, all have them.
+-- The counts of row j with one tick's events more. A list of all of them has been added to.
 abbrev pub added_at : List Counts → List Events → ℕ → Counts
 added_at counts events j = add_events (get_or counts j no_counts) (get_or events j no_events)
 
-pub added_filled : (counts : List Counts) (events : List Events) (all : List Counts) (i : ℕ)
-    → Filled no_counts (added_at counts events) most_rows all i → most_rows ≤ i
-    → length counts ≡ most_rows → length events ≡ most_rows → all ≡ add_all counts events
-added_filled counts events all i f past c e =
-    filled_all no_counts (added_at counts events) most_rows all (add_all counts events) i f past
-    (added_length counts events ∙ c)
-    (λ j low. added_place counts events j (omega arith) (omega arith))
+pub added_over : (counts : List Counts) (events : List Events) (all : List Counts)
+    → length all ≡ length counts → length counts ≡ most_rows → length events ≡ most_rows
+    → ((j : ℕ) → j < most_rows → get_or all j no_counts ≡ added_at counts events j)
+    → all ≡ add_all counts events
+added_over counts events all long c e are =
+    ext_get_or no_counts all (add_all counts events) (long ∙ sym (added_length counts events))
+    (λ j low. are j (omega arith) ∙ sym (added_place counts events j (omega arith) (omega arith)))
 
 added_at_lem : (all : List Counts) (events : List Events) (i : ℕ) (event : Event) → i < length all
     → count_of (get_or (add_all all events) i no_counts) event

@@ -15,9 +15,9 @@ use Rattle.letters.proofs.Lists.{every_at, every_append}
 use Rattle.table.specs.Valid.{rows_of, table_valid}
 use Rattle.table.specs.declared.Table.{Table}
 use Rattle.table.specs.Refusal.{refused_at}
-use Rattle.table.specs.declared.Outcome.{Outcome}
+use Rattle.table.specs.Refusal.{Outcome}
 use Rattle.table.specs.declared.Refusal.{Refusal}
-use Rattle.table.proofs.Laws.{table_valid_rows, table_valid_count}
+use Rattle.table.proofs.Laws.{table_valid_rows}
 use Rattle.traces.specs.System.{System}
 use Rattle.traces.specs.Trace.{run}
 use Rattle.traces.proofs.Runs.{run_snoc, not_both}
@@ -27,7 +27,7 @@ use Rattle.step.specs.Events.{tick_events, trace_events}
 use Rattle.step.specs.Valid.{phases_valid}
 use Rattle.step.proofs.RowEvents.{trace_events_lem}
 use Rattle.step.proofs.Systems.{run_valid}
-use Rattle.table.specs.declared.Outcome.TheVariants.{Accepted, Refused}
+use Rattle.std.specs.Prelude.{Ok, Err}
 use Rattle.watcher.specs.declared.Counts.{Counts}
 use Rattle.watcher.specs.declared.Played.{Played}
 use Rattle.pass.specs.declared.Ticked.{Ticked}
@@ -37,29 +37,15 @@ use Rattle.pass.specs.Answer.{first_number, refused_with, answered, moved_on, ti
 use Rattle.watcher.specs.Inner.Counts.{AllRoom, add_all, counts_over}
 use Rattle.watcher.specs.Inner.Tables.{table_tick, zero_counts, stopped_by, played_over}
 use Rattle.watcher.specs.Inner.Tables.{table_play}
-use Rattle.pass.specs.Inner.Pass.{begun, pass_over, finished}
 use Rattle.watcher.proofs.Counting.{counts_few, counts_snoc}
-use Rattle.pass.proofs.Passes.{pass_answer}
-use Rattle.table.specs.Limits.{most_rows}
 use Rattle.pass.proofs.Records.{watch_phases, phases_watch}
 
-pub rows_length : (table : Table) → length table.rows ≡ most_rows → table_valid table ≡ true
-    → length (rows_of table) ≡ table.count
-rows_length table all fits = length-take-le table.count table.rows
-    (omega (arith, table_valid_count table fits))
-
--- What a pass over the rows of a table value gives.
-pub table_answer : (table : Table) (watch : Watch) (letter : ℕ) → length table.rows ≡ most_rows
-    → length watch.slots ≡ most_rows
-    → table_valid table ≡ true
-    → finished (pass_over (rows_of table) 0 (begun table.signals table.count watch letter))
-    watch ≡ table_tick table watch letter
+-- A tick of the rows of a table value that number 17 lets by.
+pub table_answer : (table : Table) (watch : Watch) (letter : ℕ) → table_valid table ≡ true
+    → tick_answer table.signals (rows_of table) watch letter ≡ table_tick table watch letter
 unfolding tick_answer table_tick
-table_answer table watch letter rows8 slots8 fits =
-    ap (λ (n : ℕ). finished (pass_over (rows_of table) 0 (begun table.signals n watch letter))
-    watch) (sym (rows_length table rows8 fits))
-    ∙ pass_answer table.signals (rows_of table) watch letter slots8
-    ∙ ap (λ (b : Bool). answered (first_number b (phases_valid (rows_of table) (phases_of watch))
+table_answer table watch letter fits =
+    ap (λ (b : Bool). answered (first_number b (phases_valid (rows_of table) (phases_of watch))
     (letter_valid table.signals letter))
     (moved_on (rows_of table) letter watch) (refused_with watch))
     (table_valid_rows table fits ∙ sym fits)
@@ -71,7 +57,7 @@ table_refused table watch letter fails = rw fails
 
 -- An accepted call passed all three tests, and gives what is done.
 accepts : (a b c : Bool) (done : Ticked) (watch : Watch)
-    → (answered (first_number a b c) done (refused_with watch)).reply.outcome ≡ Accepted
+    → (answered (first_number a b c) done (refused_with watch)).reply.outcome ≡ Ok tt
     → (a ≡ true) × (b ≡ true) × (c ≡ true)
 unfolding answered
 accepts true true true done watch h = (refl, refl, refl)
@@ -81,13 +67,13 @@ accepts false b c done watch h = absurd (let z : ◌≡◌ {A = ℕ} 0 1 = cc in
 
 -- A call that was refused although its letters are right was refused for the rules or the state.
 refuses_early : (a b c d : Bool) (done : Ticked) (other : Played) (watch : Watch) (r : Refusal)
-    → done.reply.outcome ≡ Accepted → c ≡ true
-    → (answered (first_number a b c) done (refused_with watch)).reply.outcome ≡ Refused r
-    → stopped_by (Refused r) watch
+    → done.reply.outcome ≡ Ok tt → c ≡ true
+    → (answered (first_number a b c) done (refused_with watch)).reply.outcome ≡ Err r
+    → stopped_by (Err r) watch
     ≡ answered (first_number a b d) other (λ n. stopped_by (refused_at n 0) watch)
 unfolding answered
 refuses_early true true true d done other watch r k l h =
-    absurd (let z : Accepted ≡ Refused r = sym k ∙ h in
+    absurd (let z : (Ok tt) ≡ Err r = sym k ∙ h in
     let w : ◌≡◌ {A = ℕ} 0 1 = cc in omega arith)
 refuses_early true true false d done other watch r k l h =
     absurd (let z : ◌≡◌ {A = ℕ} 0 1 = cc in omega arith)
@@ -98,12 +84,12 @@ refuses_early false b c d done other watch r k l h =
 
 -- A call with the right rules and state that was refused has a letter that is too large.
 refuses_letter : (a b c : Bool) (done : Ticked) (watch : Watch) (r : Refusal)
-    → done.reply.outcome ≡ Accepted → a ≡ true → b ≡ true
-    → (answered (first_number a b c) done (refused_with watch)).reply.outcome ≡ Refused r
-    → (c ≡ false) × (Refused r ≡ refused_at 19 0)
+    → done.reply.outcome ≡ Ok tt → a ≡ true → b ≡ true
+    → (answered (first_number a b c) done (refused_with watch)).reply.outcome ≡ Err r
+    → (c ≡ false) × (Err r ≡ refused_at 19 0)
 unfolding answered
 refuses_letter true true true done watch r k p q h =
-    absurd (let z : Accepted ≡ Refused r = sym k ∙ h in
+    absurd (let z : (Ok tt) ≡ Err r = sym k ∙ h in
     let w : ◌≡◌ {A = ℕ} 0 1 = cc in omega arith)
 refuses_letter true true false done watch r k p q h = (refl, sym h)
 refuses_letter true false c done watch r k p q h =
@@ -131,8 +117,8 @@ module _ (table : Table) (watch : Watch) (trace : List ℕ) where
   X = table_system table.signals (rows_of table)
 
   -- the tick that only tests 17 and 18
-  pub playing_refused : (r : Refusal) → (table_tick table watch 0).reply.outcome ≡ Refused r
-      → stopped_by (Refused r) watch ≡ table_play table watch trace
+  pub playing_refused : (r : Refusal) → (table_tick table watch 0).reply.outcome ≡ Err r
+      → stopped_by (Err r) watch ≡ table_play table watch trace
   unfolding table_tick table_play
   playing_refused r h =
       refuses_early (table_valid table) (phases_valid (rows_of table) (phases_of watch))
@@ -141,10 +127,10 @@ module _ (table : Table) (watch : Watch) (trace : List ℕ) where
       (moved_on (rows_of table) 0 watch)
       (played_over table watch trace) watch r refl (zero_fits table.signals) h
 
-  pub playing_starts : (table_tick table watch 0).reply.outcome ≡ Accepted
+  starts : (table_tick table watch 0).reply.outcome ≡ Ok tt
       → Playing table watch trace watch zero_counts 0
   unfolding table_tick every run trace_events counts_over
-  playing_starts h =
+  starts h =
       let passed = accepts (table_valid table) (phases_valid (rows_of table) (phases_of watch))
       (letter_valid table.signals 0) _ watch h in
       record {
@@ -154,6 +140,10 @@ module _ (table : Table) (watch : Watch) (trace : List ℕ) where
         moved = sym (watch_phases watch);
         counted = refl;
       }
+
+  pub playing_starts : {tested : Ticked} → tested ≡ table_tick table watch 0
+      → tested.reply.outcome ≡ Ok tt → Playing table watch trace watch zero_counts 0
+  playing_starts is taken = starts (ap (λ (t : Ticked). t.reply.outcome) (sym is) ∙ taken)
 
   module _ (last : Watch) (counts : List Counts) (i : ℕ)
       (p : Playing table watch trace last counts i) where
@@ -182,11 +172,11 @@ module _ (table : Table) (watch : Watch) (trace : List ℕ) where
       abbrev ticked : Ticked
       ticked = table_tick table last l
 
-      pub playing_next : ticked.reply.outcome ≡ Accepted
+      goes_on : ticked.reply.outcome ≡ Ok tt
           → Playing table watch trace ticked.watch (add_all counts ticked.reply.events)
           (i + 1)
       unfolding table_tick answered every
-      playing_next e =
+      goes_on e =
           let done = moved_on (rows_of table) l last in
           let passed = accepts (table_valid table) (phases_valid (rows_of table) (phases_of last))
           (letter_valid table.signals l) done last e in
@@ -211,33 +201,39 @@ module _ (table : Table) (watch : Watch) (trace : List ℕ) where
                 (phases_of watch) w)) (sym more);
           })
 
-      pub playing_stops : (r : Refusal) → ticked.reply.outcome ≡ Refused r
-          → stopped_by (Refused r) watch ≡ table_play table watch trace
+      pub playing_next : {next : Ticked} {all : List Counts} → next ≡ ticked
+          → next.reply.outcome ≡ Ok tt → all ≡ add_all counts next.reply.events
+          → Playing table watch trace next.watch all (i + 1)
+      playing_next is taken added =
+          rw (added, is) (goes_on (ap (λ (t : Ticked). t.reply.outcome) (sym is) ∙ taken))
+
+      pub playing_stops : (r : Refusal) → ticked.reply.outcome ≡ Err r
+          → stopped_by (Err r) watch ≡ table_play table watch trace
       unfolding table_tick table_play answered
       playing_stops r e = go (every (letter_valid table.signals) trace) refl
         where
-          too_large : (letter_valid table.signals l ≡ false) × (Refused r ≡ refused_at 19 0)
+          too_large : (letter_valid table.signals l ≡ false) × (Err r ≡ refused_at 19 0)
           too_large =
               refuses_letter (table_valid table) (phases_valid (rows_of table) (phases_of last))
               (letter_valid table.signals l)
               (moved_on (rows_of table) l last) last r refl p.rules last_fits e
 
           go : (b : Bool) → every (letter_valid table.signals) trace ≡ b
-              → stopped_by (Refused r) watch ≡ table_play table watch trace
+              → stopped_by (Err r) watch ≡ table_play table watch trace
           go true all = absurd (not_both _
               (every_at (letter_valid table.signals) trace i 0 all h) too_large.0)
           go false all = rw (p.rules, p.state, all)
               (ap (λ (o : Outcome). stopped_by o watch) too_large.1)
 
     pub playing_ends : length trace ≤ i
-        → record { outcome = Accepted; watch = last; counts = counts }
+        → record { outcome = Ok tt; watch = last; counts = counts }
         ≡ table_play table watch trace
     unfolding table_play answered
     playing_ends h =
         let all = take_all i trace h in
         rw (p.rules, p.state, rw all at p.letters)
         (ap₂ (λ (w : Watch) (c : List Counts).
-        record { outcome = Accepted; watch = w; counts = c })
+        record { outcome = Ok tt; watch = w; counts = c })
         (p.moved ∙ ap (λ (w : List ℕ). watch_of (run X (phases_of watch) w)) all)
         (p.counted ∙ ap (λ (w : List ℕ). counts_over zero_counts (trace_events (rows_of table)
         (phases_of watch) w)) all))

@@ -4,17 +4,17 @@
 
 mod tally;
 
-ghost use Rattle.std.specs.Prelude.{◌≡◌};
+ghost use Rattle.std.specs.Prelude.{◌≡◌, Err};
 ghost use Rattle.pass.specs.Watch.{start_watch};
 ghost use Rattle.pass.specs.Answer.{tick_answer};
 ghost use Rattle.watcher.specs.Inner.Tables.{table_tick, table_play, stopped_by};
 
-use pass::{Reply, Slot, Ticked, Watch};
+use pass::{Pass, Reply, Slot, Ticked, Watch};
 use step::Phase;
-use table::{MOST_ROWS, Outcome, Row, Table};
+use table::{MOST_ROWS, Outcome, Refusal, Row, Table};
 
 // How often each event happened to a row.
-#[derive(Clone, Copy)]
+#[derive(Clone, Copy, Debug, PartialEq, Eq, Default)]
 pub struct Counts {
     pub started: u64,
     pub realised: u64,
@@ -26,7 +26,7 @@ pub struct Counts {
 
 // What a trace of ticks gives: whether it was taken; the state after it; and how often each event
 // happened to each row. If it was refused the state is the old one, and the counts are 0.
-#[derive(Clone, Copy)]
+#[derive(Clone, Copy, Debug, PartialEq, Eq)]
 pub struct Played {
     pub outcome: Outcome,
     pub watch: Watch,
@@ -47,17 +47,13 @@ pub fn start() -> Watch
 
 // One tick of the rows that are lent, in file order, with the state by value.
 // Refused with 17, 18 or 19, in this order; the state is then the one that was passed.
+#[tactic(auto, using(pass::proofs::Passes::pass_answer))]
 pub fn tick_rows(signals: u8, rows: &[Row], watch: Watch, letter: u8) -> Ticked
     ensures { result ≡ tick_answer signals rows.now watch letter }
 {
-    let mut pass = pass::begin(signals, rows.len(), watch, letter);
-    let mut i: usize = 0;
-    while i < rows.len() {
-        let row = rows[i];
-        pass = pass::take_row(pass, i, row);
-        i += 1;
-    }
-    pass::finish(pass, watch)
+    Pass::begin(signals, rows.len(), watch, letter)
+        .over(rows)
+        .finish(watch)
 }
 
 // One tick on the machine: rows and state are lent, and the state is moved on. A refusal leaves it
@@ -75,60 +71,50 @@ pub fn tick(signals: u8, rows: &[Row], watch: &mut Watch, letter: u8) -> Reply
 
 // One tick of a table value. Refused with 17, 18 or 19, in this order; the state is then the one
 // that was passed.
+#[tactic(auto, using(crate::proofs::Tables::table_answer, crate::proofs::Tables::table_refused, table::proofs::Laws::table_valid_count))]
 pub fn tick_table(table: Table, watch: Watch, letter: u8) -> Ticked
     ensures { result ≡ table_tick table watch letter }
 {
     if !table::valid(table) {
         return pass::refused(17, watch);
     }
-    let rows = table.rows;
-    let count = table.count as usize;
-    let begun = pass::begin(table.signals, count, watch, letter);
-    let passed = pass::over(rows, count, begun);
-    pass::finish(passed, watch)
+    let count = usize::from(table.count);
+    tick_rows(table.signals, &table.rows[..count], watch, letter)
 }
 
 // A trace that is not played: the state is the one that was passed.
-fn stopped(outcome: Outcome, watch: Watch) -> Played
-    ensures { result ≡ stopped_by outcome watch }
+fn stopped(refusal: Refusal, watch: Watch) -> Played
+    ensures { result ≡ stopped_by (Err refusal) watch }
 {
     Played {
-        outcome,
+        outcome: Err(refusal),
         watch,
-        counts: [tally::none(); MOST_ROWS],
+        counts: [Counts::default(); MOST_ROWS],
     }
 }
 
 // A trace of ticks of a table value. Refused with 17, 18, or 19 for any of its letters, in this
 // order; the state is then the one that was passed.
+#[tactic(auto, using(crate::proofs::Tables::playing_refused, crate::proofs::Tables::playing_stops))]
 pub fn play(table: Table, watch: Watch, trace: &[u8]) -> Played
     ensures { result ≡ table_play table watch trace.now }
 {
     // Letter 0 is never too large, so this tick only tests 17 and 18.
-    let tested = tick_table(table, watch, 0);
-    let reply = tested.reply;
-    let outcome = reply.outcome;
-    let Outcome::Accepted = outcome else {
-        return stopped(outcome, watch);
-    };
+    if let Err(refusal) = tick_table(table, watch, 0).reply.outcome {
+        return stopped(refusal, watch);
+    }
     let mut last = watch;
-    let mut counts = [tally::none(); MOST_ROWS];
-    let mut i: usize = 0;
-    while i < trace.len() {
-        let ticked = tick_table(table, last, trace[i]);
-        let reply = ticked.reply;
-        let outcome = reply.outcome;
-        let Outcome::Accepted = outcome else {
-            return stopped(outcome, watch);
-        };
-        let events = reply.events;
-        let more = tally::added(counts, events);
+    let mut counts = [Counts::default(); MOST_ROWS];
+    for letter in trace {
+        let ticked = tick_table(table, last, *letter);
+        if let Err(refusal) = ticked.reply.outcome {
+            return stopped(refusal, watch);
+        }
+        tally::add(&mut counts, ticked.reply.events);
         last = ticked.watch;
-        counts = more;
-        i += 1;
     }
     Played {
-        outcome: Outcome::Accepted,
+        outcome: Ok(()),
         watch: last,
         counts,
     }

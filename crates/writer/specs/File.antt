@@ -7,8 +7,8 @@ use Rattle.table.specs.Refusal.{refused_at}
 use Rattle.table.specs.Row.{tse, tc, tee, ase, ac, aee}
 use Rattle.table.specs.Valid.{rows_of, table_valid}
 use Rattle.table.specs.declared.Name.{Name}
-use Rattle.table.specs.declared.Outcome.{Outcome}
-use Rattle.table.specs.declared.Outcome.TheVariants.{Accepted}
+use Rattle.table.specs.Refusal.{Outcome}
+use Rattle.std.specs.Prelude.{Ok}
 use Rattle.table.specs.declared.Row.{Row}
 use Rattle.table.specs.declared.Table.{Table}
 use Rattle.text.specs.Bounds.{decimal}
@@ -78,7 +78,7 @@ unwritten number buffer = record { outcome = refused_at number 0; length = 0; bu
 -- "When the file is written, the answer gives its length and the bytes behind it are unchanged."
 abbrev pub wrote : List ℕ → List ℕ → WriteCall
 wrote text buffer =
-    record { outcome = Accepted; length = length text; buffer = written text buffer }
+    record { outcome = Ok tt; length = length text; buffer = written text buffer }
 
 unfoldable pub write_answer : Table → List ℕ → WriteCall
 write_answer table buffer =

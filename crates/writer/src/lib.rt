@@ -243,7 +243,7 @@ fn refused(number: u8) -> Written
     ensures { result ≡ not_written number }
 {
     Written {
-        outcome: Outcome::Refused(Refusal { number, line: 0 }),
+        outcome: Err(Refusal { number, line: 0 }),
         length: 0,
     }
 }
@@ -273,7 +273,7 @@ pub fn write(table: Table, out: &mut [u8]) -> Written
     }
     let end = put_file(out, table);
     Written {
-        outcome: Outcome::Accepted,
+        outcome: Ok(()),
         length: end,
     }
 }

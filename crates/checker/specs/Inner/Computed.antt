@@ -2,8 +2,8 @@
 -- `RightLoad` and `RightWriting` describe them.
 use Rattle.std.specs.Prelude.{ℕ, cond, List, ltb, length}
 use Rattle.table.specs.Limits.{most_bytes}
-use Rattle.table.specs.declared.Outcome.{Outcome}
-use Rattle.table.specs.declared.Outcome.TheVariants.{Accepted, Refused}
+use Rattle.table.specs.Refusal.{Outcome}
+use Rattle.std.specs.Prelude.{Ok, Err}
 use Rattle.table.specs.declared.Table.{Table}
 use Rattle.reader.specs.Inner.File.{read_answer}
 use Rattle.verdict.specs.declared.Found.TheVariants.{Refused as FoundRefused}
@@ -19,9 +19,9 @@ use Rattle.checker.specs.FileReport.{FileReport, Call, call_of}
 
 -- A refused file is not searched, and lent memory is unchanged then.
 abbrev pub after_reading : Outcome → Table → Lent → FileReport
-after_reading (Refused refusal) table lent =
+after_reading (Err refusal) table lent =
     record { report = report_bytes 0 0 lent.trace (FoundRefused refusal); lent = lent }
-after_reading Accepted table lent =
+after_reading (Ok _) table lent =
     let searched = search_answer table lent in
     record {
       report =
@@ -39,8 +39,8 @@ check_call bytes lent out = call_of (check_answer bytes lent) out
 
 -- "`loadtable` reads a table, takes 1,000 ticks from 1 and prints".
 abbrev pub after_loading : Outcome → Table → List ℕ
-after_loading (Refused refusal) table = run_bytes 0 (not_run (Refused refusal))
-after_loading Accepted table = run_bytes table.count (run_answer table load_start load_ticks)
+after_loading (Err refusal) table = run_bytes 0 (not_run (Err refusal))
+after_loading (Ok _) table = run_bytes table.count (run_answer table load_start load_ticks)
 
 unfoldable pub load_answer : List ℕ → List ℕ
 load_answer bytes =
@@ -49,8 +49,8 @@ load_answer bytes =
 -- `writetable` "reads a table .. and prints the written file. A refused one prints its refused line
 -- alone".
 abbrev pub after_writing : Outcome → Table → List ℕ
-after_writing (Refused refusal) table = refused_text refusal.number refusal.line
-after_writing Accepted table =
+after_writing (Err refusal) table = refused_text refusal.number refusal.line
+after_writing (Ok _) table =
     cond (ltb most_bytes (length (file_text table))) (refused_text 23 0) (file_text table)
 
 unfoldable pub writing_answer : List ℕ → List ℕ

@@ -1,16 +1,10 @@
 -- `letters::all` meets its contract: n letters from 0 on are the number 2^n - 1. Assumes nothing.
 use native.Mathlib.Omega.{arith}
 use mathlib.Core.Path.{◌≡◌, sym}
-use lib.Pow.{pow_pos}
 use Rattle.letters.specs.Letter.{set_bits}
 use Rattle.letters.proofs.Bits.{one_shifted}
 use Rattle.letters.proofs.Sets.{set_of_true}
 use Rattle.letters.proofs.all.Goals as goal
-
-pub overflow_sub-result : goal.overflow_sub-result
-overflow_sub-result c =
-    let n = c.before.width_of-n.result in
-    rw (one_shifted n c.if-n-lt-SET_BITS.true) (pow_pos n)
 
 pub returns-then-n-lt-SET_BITS : goal.returns-then-n-lt-SET_BITS
 returns-then-n-lt-SET_BITS c =

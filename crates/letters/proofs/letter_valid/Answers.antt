@@ -2,15 +2,10 @@
 -- is one of theirs. Assumes nothing.
 use borrow.Author.Tests.{lt-ltb}
 use native.Mathlib.Nat.{lt_of_lt_of_le}
-use native.Mathlib.Omega.{arith}
 use lib.Pow.{pow_mono}
 use mathlib.Core.Path.{sym}
-use Rattle.letters.proofs.Bits.{one_shifted}
 use Rattle.letters.proofs.letter_valid.Goals as goal
-
-pub returns-then-signals-lt-LETTER_BITS : goal.returns-then-signals-lt-LETTER_BITS
-returns-then-signals-lt-LETTER_BITS c = rw (one_shifted c.before.args.signals (omega arith))
 
 pub returns-else-signals-lt-LETTER_BITS : goal.returns-else-signals-lt-LETTER_BITS
 returns-else-signals-lt-LETTER_BITS c =
-    sym (lt-ltb _ _ (lt_of_lt_of_le c.before.ranges.letter.fits (pow_mono c.if-signals-lt-LETTER_BITS.false)))
+    sym (lt-ltb _ _ (lt_of_lt_of_le c.ranges.letter.fits (pow_mono c.if-signals-lt-LETTER_BITS.false)))

@@ -2,7 +2,6 @@
 -- taken from all of those. Assumes nothing.
 use Prim.Native.Nat.{ℕ, ◌^◌, ◌-◌, ◌%◌}
 use native.Mathlib.Nat.{mod-lt}
-use native.Mathlib.Omega.{arith}
 use mathlib.Core.Bool.{not}
 use mathlib.Core.Path.{◌≡◌, ap, ◌∙◌}
 use lib.Bits.{bit_and, and_mask, and_comm}
@@ -17,12 +16,6 @@ masked n full set e = rw (e, and_comm (2 ^ n - 1) set) (and_mask set n)
 
 full_is : (c : goal.After-all-full) → c.all-full.result ≡ 2 ^ width c.before.args.signals - 1
 full_is c = c.all-full.ensures ∙ set_of_true (width c.before.args.signals)
-
-pub overflow_sub-result : goal.overflow_sub-result
-overflow_sub-result c =
-    let n = width c.before.args.signals in
-    rw (masked n c.all-full.result c.before.args.set (full_is c))
-    (omega (arith, full_is c, mod-lt c.before.args.set (pow_pos n)))
 
 pub returns : goal.returns
 returns c =

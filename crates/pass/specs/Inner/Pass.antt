@@ -8,7 +8,7 @@ use Rattle.table.specs.Valid.{counts_allowed}
 use Rattle.table.specs.declared.Row.{Row}
 use Rattle.step.specs.declared.Phase.{Phase}
 use Rattle.step.specs.declared.Phase.TheVariants.{Waiting}
-use Rattle.table.specs.declared.Outcome.TheVariants.{Accepted}
+use Rattle.std.specs.Prelude.{Ok}
 use Rattle.step.specs.Step.{step_row}
 use Rattle.step.specs.Events.{row_events}
 use Rattle.step.specs.Valid.{phase_valid, is_waiting}
@@ -55,7 +55,7 @@ pass_over (row ∷ rows) i pass = pass_over rows (i + 1) (row_taken pass i row)
 -- The state of a pass, with what happened.
 abbrev pub passed : Pass → Ticked
 passed pass =
-    record { reply = record { outcome = Accepted; events = pass.events }; watch = pass.watch }
+    record { reply = record { outcome = Ok tt; events = pass.events }; watch = pass.watch }
 
 unfoldable pub finished : Pass → Watch → Ticked
 finished pass watch =

@@ -7,7 +7,7 @@ use mathlib.Core.Path.{◌≡◌, sym, ap, ap₂, ◌∙◌}
 use lib.ListN.{length-map, length, take, drop, length-drop}
 use Rattle.letters.specs.Letter.{width}
 use Rattle.table.specs.declared.Name.{Name}
-use Rattle.table.specs.declared.Outcome.TheVariants.{Accepted}
+use Rattle.std.specs.Prelude.{Ok}
 use Rattle.table.specs.declared.Row.{Row}
 use Rattle.text.specs.Inner.Cut.{front}
 use Rattle.text.specs.Lines.{LF}
@@ -99,7 +99,7 @@ returns c =
     let a = c.args in
     let inv = c.loop-at.invariant.1 in
     ap₂ (λ (k : ℕ) (l : List Row). record {
-      outcome = Accepted;
+      outcome = Ok tt;
       table = record { signals = a.signals; names = a.names; count = k; rows = l };
     })
     (sym (length-map c.loop-at.invariant.0 row_of ∙ inv.0.many))

@@ -1,6 +1,7 @@
 -- `table::valid` meets its contract: the code's tests, in another order, are those of number 17,
 -- since a table value has `most_rows` places for rows. Assumes nothing.
 use Prim.Native.Nat.{◌≤◌}
+use borrow.Author.Rules.{rules}
 use native.Mathlib.Omega.{arith}
 use mathlib.Core.Bool.{Bool, true, false, ◌&&◌, and_comm}
 use mathlib.Core.Path.{◌≡◌, refl}
@@ -13,7 +14,6 @@ use Rattle.table.specs.Name.{name_valid, name_unused, all_distinct}
 use Rattle.table.specs.Valid.{counts_allowed, rows_valid, names_valid, rows_of, table_valid}
 use Rattle.table.proofs.Laws.{counts_rows}
 use Rattle.table.specs.declared.Table.{Table}
-use Rattle.table.proofs.valid.Goals.{Start}
 use Rattle.table.proofs.valid.Goals as goal
 
 -- the code's order and that of number 17: c tests the counts, and l those of the rows that are used
@@ -31,19 +31,13 @@ count-used t e h =
     omega (arith, counts_rows t.signals t.count h) in
     rw length-take-le h
 
--- a table value has its places for rows: it is so of its fourth field
-places : (c : Start) → length c.args.table.rows ≡ most_rows
-places c = c.well_formed.0.1.1.1.1.1.0.1.0.1
-
 pub returns : goal.returns
 unfolding table_valid rows_valid names_valid
 returns c =
-    let copied = c.before.before.before.before.before.before in
-    let start = copied.before.before.before.before in
-    let t = start.args.table in
+    let t = c.args.table in
     let s = t.signals in
     let order = tests_order (counts_allowed s t.count) (counts_allowed s (length (rows_of t)))
     (every name_valid (take s t.names)) (all_distinct (take s t.names))
     (every name_unused (drop s t.names)) (every (row_valid s) (rows_of t))
-    (every row_unused (drop t.count t.rows)) (count-used t (places start)) in
+    (every row_unused (drop t.count t.rows)) (count-used t (search rules)) in
     cc

@@ -5,8 +5,8 @@ use Rattle.letters.specs.Lists.{every}
 use Rattle.table.specs.Limits.{most_rows}
 use Rattle.table.specs.Refusal.{refused_at}
 use Rattle.table.specs.Valid.{rows_of, table_valid}
-use Rattle.table.specs.declared.Outcome.{Outcome}
-use Rattle.table.specs.declared.Outcome.TheVariants.{Accepted}
+use Rattle.table.specs.Refusal.{Outcome}
+use Rattle.std.specs.Prelude.{Ok}
 use Rattle.table.specs.declared.Table.{Table}
 use Rattle.traces.specs.Trace.{run}
 use Rattle.step.specs.Tick.{table_system}
@@ -38,7 +38,7 @@ stopped_by outcome watch = record { outcome = outcome; watch = watch; counts = z
 
 abbrev pub played_over : Table → Watch → List ℕ → Played
 played_over table watch trace = record {
-  outcome = Accepted;
+  outcome = Ok tt;
   watch = watch_of (run (table_system table.signals (rows_of table)) (phases_of watch) trace);
   counts = counts_over zero_counts (trace_events (rows_of table) (phases_of watch) trace);
 }

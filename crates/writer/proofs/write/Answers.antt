@@ -6,7 +6,7 @@ use mathlib.Core.List.{List}
 use mathlib.Core.Path.{◌≡◌, sym, ◌∙◌}
 use lib.ListN.{length}
 use Rattle.table.specs.Limits.{most_bytes}
-use Rattle.table.specs.declared.Outcome.TheVariants.{Accepted}
+use Rattle.std.specs.Prelude.{Ok}
 use Rattle.put.proofs.Puts.{puts_written}
 use Rattle.writer.specs.declared.Written.{Written}
 use Rattle.writer.specs.Inner.Writing.{not_written}
@@ -25,8 +25,8 @@ refused_call : {r : Written} {number : ℕ} {buffer : List ℕ} {answer : WriteC
 refused_call e a = rw (e, a)
 
 written_call : {n m : ℕ} {one other : List ℕ} {answer : WriteCall} → n ≡ m → one ≡ other
-    → answer ≡ record { outcome = Accepted; length = m; buffer = other }
-    → ◌≡◌ {A = WriteCall} (record { outcome = Accepted; length = n; buffer = one }) answer
+    → answer ≡ record { outcome = Ok tt; length = m; buffer = other }
+    → ◌≡◌ {A = WriteCall} (record { outcome = Ok tt; length = n; buffer = one }) answer
 written_call e f a = rw (e, f, a)
 
 pub returns-then-not-valid : goal.returns-then-not-valid

@@ -1,8 +1,7 @@
 -- `table::names::name_unused` meets its contract. Assumes nothing.
-use borrow.Author.Rules.{rules}
-use Rattle.table.specs.Name.{name_unused}
+use Rattle.std.proofs.Common.{rules}
+use Rattle.table.proofs.Laws.{name_alike}
 use Rattle.table.proofs.names.name_unused.Goals as goal
 
 pub returns : goal.returns
-unfolding name_unused
-returns c = search rules
+returns c = let alike = name_alike c.args.name c.default.result (search rules) c.default.ensures in cc
