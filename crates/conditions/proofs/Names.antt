@@ -12,10 +12,8 @@ use lib.Seq.{take_all, take-take}
 use Rattle.letters.specs.Letter.{signal_on, set_of}
 use Rattle.letters.specs.Lists.{every}
 use Rattle.letters.proofs.Lists.{and_left, and_right}
-use Rattle.std.specs.List.{prefix_len}
 use Rattle.table.specs.Name.{is_lowercase, name_run}
 use Rattle.table.specs.declared.Name.{Name}
-use Rattle.table.proofs.Laws.{name_run_le}
 use Rattle.conditions.specs.Condition.{name_of, place}
 use Rattle.conditions.specs.Inner.Reading.{name_at}
 use Rattle.conditions.specs.Inner.Reading.{some_part}
@@ -31,17 +29,6 @@ name_run_every (b ∷ xs) = go (is_lowercase b) refl (name_run_every xs)
         → every is_lowercase (take (cond t (suc (name_run xs)) 0) (b ∷ xs)) ≡ true
     go true e h = rw e h
     go false e h = refl
-
--- The letters in front are the longest front of letters, as the library has it.
-pub name_run_prefix : (xs : List ℕ) → name_run xs ≡ prefix_len is_lowercase xs
-unfolding name_run
-name_run_prefix [] = refl
-name_run_prefix (b ∷ xs) = go (is_lowercase b) (name_run_prefix xs)
-  where
-    go : (t : Bool) → name_run xs ≡ prefix_len is_lowercase xs
-        → cond t (suc (name_run xs)) 0 ≡ cond t (1 + prefix_len is_lowercase xs) 0
-    go true rest = omega arith
-    go false rest = refl
 
 pub name_run_append : (w rest : List ℕ) → every is_lowercase w ≡ true → name_run rest ≡ 0
     → name_run (w ++ rest) ≡ length w

@@ -13,7 +13,7 @@ use lib.Dec.{eqb, ltb}
 use lib.ListN.{length, take, drop, length-append, length-take}
 use lib.Seq.{drop-append-add}
 use Rattle.std.specs.Prelude.{Some, None, unwrap_or, cond}
-use Rattle.std.specs.List.{position, position_or_len, count_by}
+use Rattle.std.specs.List.{position, position_or_len, count_by, slice_split, onto_first}
 use Rattle.std.proofs.lemmas.List.Recursion.{is_count_by}
 use Rattle.text.specs.Lines.{count}
 use Rattle.text.specs.Inner.Cut.{longer, split, front, after}
@@ -22,12 +22,43 @@ longer_length : (x : ℕ) (pieces : List (List ℕ)) → length (longer x pieces
 longer_length x [] = refl
 longer_length x (piece ∷ pieces) = refl
 
+split_some : (b : ℕ) (xs : List ℕ) → 1 ≤ length (split b xs)
+unfolding split
+split_some b [] = omega arith
+split_some b (x ∷ xs) = go (eqb x b) (split_some b xs)
+  where
+    go : (t : Bool) → 1 ≤ length (split b xs)
+        → 1 ≤ length (cond t ([] ∷ split b xs) (longer x (split b xs)))
+    go true some = omega arith
+    go false some = rw longer_length some
+
+-- The pieces are those of the library's `split`.
+pub split_slice : (b : ℕ) (xs : List ℕ) → slice_split (λ x. eqb x b) xs ≡ split b xs
+unfolding split
+split_slice b [] = refl
+split_slice b (x ∷ xs) = go (eqb x b) (split b xs) (split_some b xs) (split_slice b xs)
+  where
+    go : (t : Bool) (pieces : List (List ℕ)) → 1 ≤ length pieces
+        → slice_split (λ y. eqb y b) xs ≡ pieces
+        → cond t ([] ∷ slice_split (λ y. eqb y b) xs) (onto_first x (slice_split (λ y. eqb y b) xs))
+        ≡ cond t ([] ∷ pieces) (longer x pieces)
+    go t [] some e = absurd (omega arith)
+    go true (piece ∷ more) some e = rw e
+    go false (piece ∷ more) some e = rw e
+
 module _ (b : ℕ) where
   pub count_append : (xs ys : List ℕ) → count b (xs ++ ys) ≡ count b xs + count b ys
   unfolding count
   count_append [] ys = omega arith
   count_append (x ∷ xs) ys =
       let rest = count_append xs ys in
+      ⊎_elim (λ e. rw e (omega arith)) (λ e. rw e (omega arith)) (cases_Bool (eqb x b))
+
+  pub count_le : (xs : List ℕ) → count b xs ≤ length xs
+  unfolding count
+  count_le [] = omega arith
+  count_le (x ∷ xs) =
+      let rest = count_le xs in
       ⊎_elim (λ e. rw e (omega arith)) (λ e. rw e (omega arith)) (cases_Bool (eqb x b))
 
   pub split_length : (xs : List ℕ) → length (split b xs) ≡ suc (count b xs)

@@ -8,7 +8,8 @@ use mathlib.Core.Path.{◌≡◌, sym, ap, ◌∙◌}
 use lib.ListN.{length, take, length-take}
 use Rattle.std.proofs.lemmas.List.{take_min}
 use Rattle.table.specs.declared.Name.{Name}
-use Rattle.conditions.proofs.Names.{name_at_none, name_at_long, name_at_some, name_run_prefix}
+use Rattle.conditions.proofs.Names.{name_at_none, name_at_long, name_at_some}
+use Rattle.table.proofs.Laws.{name_run_prefix}
 use Rattle.conditions.proofs.Places.{place_le}
 use Rattle.conditions.proofs.name_at.Goals as goal
 
@@ -20,7 +21,7 @@ names_used names count all used =
 
 pub returns-then-run-eq0 : goal.returns-then-run-eq0
 returns-then-run-eq0 c =
-    let run = c.run_at-run.ensures ∙ sym (name_run_prefix _) in
+    let run = c.run_at-run.ensures ∙ name_run_prefix _ in
     ⊎_elim (λ e. name_at_none _ _ _ _ run e) (λ e. name_at_long _ _ _ _ run (omega arith))
     c.then-run-eq0.either
 
@@ -39,5 +40,5 @@ returns c =
     let used : c.min-used.result ≡ length (take c.args.signals.count names) =
     rw length-take (omega arith) in
     let place = rw (names_used names c.args.signals.count all count) at c.place_of-k.ensures in
-    name_at_some _ _ _ _ (c.run_at-run.ensures ∙ sym (name_run_prefix _)) c.if-run-eq0.false
+    name_at_some _ _ _ _ (c.run_at-run.ensures ∙ name_run_prefix _) c.if-run-eq0.false
     (omega arith) c.name_of.ensures place used c.signal_set.ensures
