@@ -8,9 +8,8 @@ use mathlib.Core.List.{List, [], ◌∷◌, ◌++◌, map}
 use mathlib.Core.Path.{◌≡◌, refl, sym, ap, ◌∙◌}
 use lib.Dec.{eqb, leb}
 use lib.ListN.{length, take, drop, take-append-drop, length-append, length-drop}
-use Rattle.std.specs.List.{list_all}
 use Rattle.std.specs.Prelude.{Result, Ok, Err}
-use Rattle.letters.specs.Lists.{within, every, same_bytes}
+use Rattle.letters.specs.Lists.{every, same_bytes}
 use Rattle.letters.proofs.Lists.{and_left, and_right, same_bytes_true, same_bytes_false}
 use Rattle.letters.proofs.Lists.{same_bytes_refl}
 use Rattle.table.specs.Limits.{most_signals}
@@ -107,11 +106,6 @@ unfolding every
 header_right First = record { line_is = refl; four = refl; digits = refl }
 
 -- Names.
-pub name_shaped_all : (w : List ℕ)
-    → name_shaped w ≡ (within 1 8 (length w) && list_all is_lowercase w)
-unfolding name_shaped every
-name_shaped_all w = refl
-
 pub shaped_name : (w : List ℕ) → name_shaped w ≡ true → IsName w
 unfolding name_shaped
 shaped_name w h =

@@ -64,3 +64,19 @@ overflow_add-count_of c =
     let begins = some_kept _ _ _ c.strip_prefix.result c.strip_prefix.ensures.cases
     c.ok_or.ensures.value c.in_ok-rest.was in
     omega (arith, begins.2, c.count_of.ensures, count_le space c.in_ok-rest.rest.now)
+
+pub returns : goal.returns
+unfolding same_bytes
+returns c =
+    let begins = some_kept _ _ _ c.strip_prefix.result c.strip_prefix.ensures.cases
+    c.ok_or.ensures.value c.in_ok-rest.was in
+    let rest = c.in_ok-rest.rest.now in
+    let all = YieldsList-from_enumerate
+    (YieldsList-from_slice_split _ (λ x. eqb x 32) rest (cc) (cc) (cc)
+    (λ x b q k. search (rules, tests))) (cc) in
+    let done = YieldsList-end all c.loop-n.yielded _ c.loop-n.yielded_by _ _ c.in-None.is
+    c.next.ensures.steps in
+    let named = named_all _ _ _ c.loop-n.invariant (done.1 ∙ all_words rest) in
+    c.judge_names.ensures
+    ∙ sym (answer_names _ begins.0 (rw begins.1 at named.0) (rw begins.1 at named.1)
+    (rw begins.1 at (words_counted rest c.count_of.ensures)))
