@@ -40,7 +40,7 @@ name_run_append (b ∷ w) rest h e = rw (
 )
 
 -- i letters of w in front of what is left of the zeros.
-abbrev filled : List ℕ → List ℕ → ℕ → List ℕ
+abbrev pub filled : List ℕ → List ℕ → ℕ → List ℕ
 filled w zeros i = take i w ++ drop i zeros
 
 pub take_zeros : (m k : ℕ) → m ≤ k → take {A = ℕ} m (replicate k 0) ≡ replicate m 0
@@ -58,6 +58,11 @@ filled_end (x ∷ w) zero (suc m) k a b c d = absurd (omega arith)
 filled_end (x ∷ w) (suc i) zero k a b c d = absurd (omega arith)
 filled_end (x ∷ w) (suc i) (suc m) k a b c d =
     ap (◌∷◌ x) (filled_end w i m k (omega arith) (omega arith) (omega arith) (omega arith))
+
+pub name_of_filled : (w letters : List ℕ) (i : ℕ) → letters ≡ filled w (replicate 8 0) i → i ≤ 8
+    → i ≤ length w → min (length w) 8 ≤ i → record { chars = letters } ≡ name_of w
+unfolding name_of
+name_of_filled w letters i e h g f = rw (e, filled_end w i 8 8 g h f (omega arith))
 
 -- The first letters copied to the front of eight zeros.
 pub name_of_front : (s : List ℕ) (n : ℕ) {k : ℕ} → k ≡ min (min n (length s)) 8
