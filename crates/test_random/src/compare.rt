@@ -8,7 +8,7 @@ use crate::lent::{
 use random::tally::unless;
 use second::{ALL_PARTS, LOST, STATE, TRACE};
 use table::Refusal;
-use verdict::Found;
+use verdict::{Finding, Found};
 
 fn compare_values(
     refusal: Refusal,
@@ -31,12 +31,12 @@ fn compare_values(
 pub fn compare_answers(found: Found, right: Expected) -> u32 {
     let taken = Refusal { number: 0, line: 0 };
     match found {
-        Found::Refused(refusal) => compare_values(refusal, ABSENT, 0, 0, 0, 0, right),
-        Found::Sound(summary) => {
+        Err(refusal) => compare_values(refusal, ABSENT, 0, 0, 0, 0, right),
+        Ok(Finding::Sound(summary)) => {
             let never = summary.lists.never;
             compare_values(taken, SOUND, 0, 0, summary.count, never, right)
         }
-        Found::Trapped(summary, trap) => {
+        Ok(Finding::Trapped(summary, trap)) => {
             let count = summary.count;
             let never = summary.lists.never;
             compare_values(taken, TRAPPED, trap.length, trap.lost, count, never, right)

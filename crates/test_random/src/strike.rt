@@ -2,7 +2,7 @@
 // notices it.
 use crate::lent::{Held, LONGEST, LONGEST_INDEX, Lengths};
 use random::numbers::{below, byte_below, mixed, one_in};
-use verdict::{Found, Summary};
+use verdict::{Finding, Found, Summary};
 
 // The lists by number: states, lost numbers, index, trace, and the set of rows that never fire,
 // whose places are its bits.
@@ -129,8 +129,8 @@ fn strike_summary(summary: Summary, strike: Strike) -> Summary {
 // The answer with a row put into its set of rows that never fire, or taken out, if it is the one.
 pub fn struck_answer(found: Found, strike: Strike) -> Found {
     match found {
-        Found::Refused(refusal) => Found::Refused(refusal),
-        Found::Sound(summary) => Found::Sound(strike_summary(summary, strike)),
-        Found::Trapped(summary, trap) => Found::Trapped(strike_summary(summary, strike), trap),
+        Err(refusal) => Err(refusal),
+        Ok(Finding::Sound(summary)) => Ok(Finding::Sound(strike_summary(summary, strike))),
+        Ok(Finding::Trapped(summary, trap)) => Ok(Finding::Trapped(strike_summary(summary, strike), trap)),
     }
 }
