@@ -21,8 +21,9 @@ use Rattle.conditions.specs.Condition.{name_of, place, holds_at, unknown}
 use Rattle.conditions.specs.Condition.Condition.{one_term, or, one_factor, and, negated, named}
 use Rattle.conditions.specs.Condition.Condition.{never, always, grouped}
 use Rattle.conditions.specs.Inner.Reading.{is_at, signal, name_at, digit_at, rank, reads}
-use Rattle.conditions.specs.declared.Read.{Read}
-use Rattle.conditions.specs.declared.Read.TheVariants.{Set}
+use Rattle.conditions.specs.declared.Part.{Part}
+use Rattle.conditions.specs.Inner.Reading.{some_part}
+use Rattle.std.specs.Prelude.{Option}
 use Rattle.conditions.proofs.Bytes.{begins, is_at_drop, drop_past, drop_next}
 use Rattle.conditions.proofs.Names.{name_run_append}
 
@@ -77,10 +78,10 @@ no_sign (x ∷ w) rest b p g =
     ne_eqb x b (λ e. true≢false (sym letter ∙ ap is_lowercase e ∙ g))
 
 module _ (names : List Name) (n : ℕ) (s : List ℕ) where
-  abbrev ReadAs : {k : Kind} → Condition k → ℕ → Read → Type 0
-  ReadAs c at r = r ≡ Set (set_of n (holds_at names c)) (unknown names c) (at + length (text c))
+  abbrev ReadAs : {k : Kind} → Condition k → ℕ → Option Part → Type 0
+  ReadAs c at r = r ≡ some_part (set_of n (holds_at names c)) (unknown names c) (at + length (text c))
 
-  set_path : {v w i j : ℕ} {u : Bool} → v ≡ w → i ≡ j → Set v u i ≡ Set w u j
+  set_path : {v w i j : ℕ} {u : Bool} → v ≡ w → i ≡ j → some_part v u i ≡ some_part w u j
   set_path p q = cc
 
   name_read : (w rest : List ℕ) (at : ℕ) (p : IsName w) → drop at s ≡ w ++ rest

@@ -6,7 +6,7 @@ use native.Mathlib.Omega.{arith}
 use borrow.Author.Tests.{eqb-true, eq-eqb}
 use mathlib.Core.Bool.{Bool, true, false, cond}
 use mathlib.Core.List.{List, [], append-nil}
-use mathlib.Core.Path.{◌≡◌, refl, sym, ◌∙◌}
+use mathlib.Core.Path.{◌≡◌, refl, sym, ap, ◌∙◌}
 use lib.Dec.{eqb}
 use lib.ListN.{length}
 use lib.Seq.{drop-length}
@@ -18,9 +18,10 @@ use Rattle.conditions.specs.Condition.{ConditionMeans}
 use Rattle.conditions.specs.Depth.{Shallow}
 use Rattle.conditions.specs.Inner.Judge.{deep, verdict_of, judge}
 use Rattle.conditions.specs.Inner.Reading.{reads, wholly, condition_of}
-use Rattle.conditions.specs.declared.Read.{Read}
-use Rattle.conditions.specs.declared.Read.TheVariants.{Set, Nothing}
-use Rattle.conditions.specs.declared.Judged.TheVariants.{Letters, Refused}
+use Rattle.conditions.specs.declared.Part.{Part}
+use Rattle.conditions.specs.Inner.Reading.{some_part}
+use Rattle.std.specs.Prelude.{Option, Some, None}
+use Rattle.std.specs.Prelude.{Result, Ok, Err}
 use Rattle.conditions.proofs.Complete.{complete}
 use Rattle.conditions.proofs.Depth.{deep_false, shallow_false}
 use Rattle.conditions.proofs.Sound.{Sound, reads_sound}
@@ -28,7 +29,7 @@ use Rattle.conditions.proofs.Sound.{Sound, reads_sound}
 module _ (names : List Name) (n : ℕ) (s : List ℕ) where
   -- What a condition writes is read, with its meaning.
   tree_read : (c : Condition choice) → text c ≡ s
-      → condition_of names n s ≡ Set (set_of n (holds_at names c)) (unknown names c) (length s)
+      → condition_of names n s ≡ some_part (set_of n (holds_at names c)) (unknown names c) (length s)
   unfolding condition_of
   tree_read c e =
       let f = 3 * length s + 3 in
@@ -37,38 +38,38 @@ module _ (names : List Name) (n : ℕ) (s : List ℕ) where
       rw (r, zero-add, e, eq-eqb (length s) (length s) refl)
 
   pub means_read : (v : ℕ) (u : Bool) → ConditionMeans names n s v u
-      → condition_of names n s ≡ Set v u (length s)
+      → condition_of names n s ≡ some_part v u (length s)
   means_read v u m = tree_read m.tree m.bytes ∙ rw (m.letters, m.flag)
 
   -- What is read is written by a condition with that meaning.
-  pub read_means : (v : ℕ) (u : Bool) (next : ℕ) → condition_of names n s ≡ Set v u next
-      → ConditionMeans names n s v u
+  pub read_means : (p : Part) → condition_of names n s ≡ Some p
+      → ConditionMeans names n s p.set p.unknown
   unfolding condition_of
-  read_means v u next e = go (reads names n s f choice 0) (reads_sound names n s f 0 choice) e
+  read_means p e = go (reads names n s f choice 0) (reads_sound names n s f 0 choice) e
     where
       f : ℕ
       f = 3 * length s + 3
 
-      end : (w : ℕ) (t b : Bool) (last : ℕ) → eqb last (length s) ≡ b
-          → Sound names n s choice 0 (Set w t last)
-          → cond b (Set w t last) Nothing ≡ Set v u next → ConditionMeans names n s v u
-      end w t false last p h q = absurd (let z : ◌≡◌ {A = ℕ} 0 1 = cc in omega arith)
-      end w t true last p h q =
-          let rest = rw (eqb-true last (length s) p, drop-length s, append-nil) at h.bytes in
+      end : (q : Part) (b : Bool) → eqb q.next (length s) ≡ b → Sound names n s choice 0 (Some q)
+          → cond b (Some q) None ≡ Some p → ConditionMeans names n s p.set p.unknown
+      end q false i h z = absurd (let z : ◌≡◌ {A = ℕ} 0 1 = cc in omega arith)
+      end q true i h z =
+          let same : q ≡ p = cc in
+          let rest = rw (eqb-true q.next (length s) i, drop-length s, append-nil) at h.bytes in
           record {
             tree = h.tree;
             bytes = sym rest;
-            letters = h.letters ∙ (cc);
-            flag = h.flag ∙ (cc);
+            letters = h.letters ∙ ap (λ (x : Part). x.set) same;
+            flag = h.flag ∙ ap (λ (x : Part). x.unknown) same;
           }
 
-      go : (r : Read) → Sound names n s choice 0 r → wholly (length s) r ≡ Set v u next
-          → ConditionMeans names n s v u
-      go Nothing h q = absurd (let z : ◌≡◌ {A = ℕ} 0 1 = cc in omega arith)
-      go (Set w t last) h q = end w t (eqb last (length s)) last refl h q
+      go : (r : Option Part) → Sound names n s choice 0 r → wholly (length s) r ≡ Some p
+          → ConditionMeans names n s p.set p.unknown
+      go None h q = absurd (let z : ◌≡◌ {A = ℕ} 0 1 = cc in omega arith)
+      go (Some q) h z = end q (eqb q.next (length s)) refl h z
 
   -- Where nothing is read, no condition writes the bytes.
-  pub nothing_read : condition_of names n s ≡ Nothing → (v : ℕ) (u : Bool)
+  pub nothing_read : condition_of names n s ≡ None → (v : ℕ) (u : Bool)
       → ConditionMeans names n s v u → ⊥
   nothing_read e v u m =
       let read = means_read v u m in
@@ -82,36 +83,46 @@ module _ (names : List Name) (n : ℕ) (s : List ℕ) where
   means_unique {v} {w} {u} {t} a b =
       let first = means_read v u a in
       let second = means_read w t b in
-      (cc, cc)
+      let same : some_part v u (length s) ≡ some_part w t (length s) = sym first ∙ second in
+      (ap set_in same, ap unknown_in same)
+    where
+      set_in : Option Part → ℕ
+      set_in None = 0
+      set_in (Some p) = p.set
+
+      unknown_in : Option Part → Bool
+      unknown_in None = false
+      unknown_in (Some p) = p.unknown
 
   -- The code gives letters exactly where the bytes are a condition over known names, and at most 8
   -- parentheses are open.
-  judge_accepted : (v : ℕ) → judge names n s ≡ Letters v
+  judge_accepted : (v : ℕ) → judge names n s ≡ Ok v
       → Shallow s × ConditionMeans names n s v false
   unfolding judge
   judge_accepted v e = go (deep 0 0 s) (condition_of names n s) refl refl e
     where
-      flagged : (w : ℕ) (u : Bool) → cond u (Refused 13) (Letters w) ≡ Letters v
+      flagged : (w : ℕ) (u : Bool) → cond {A = Result ℕ ℕ} u (Err 13) (Ok w) ≡ Ok v
           → ConditionMeans names n s w u → ConditionMeans names n s v false
       flagged w true q m = absurd (let z : ◌≡◌ {A = ℕ} 0 1 = cc in omega arith)
       flagged w false q m =
           record { tree = m.tree; bytes = m.bytes; letters = m.letters ∙ (cc); flag = m.flag }
 
-      go : (t : Bool) (r : Read) → deep 0 0 s ≡ t → condition_of names n s ≡ r
-          → cond t (Refused 11) (verdict_of r) ≡ Letters v
+      go : (t : Bool) (r : Option Part) → deep 0 0 s ≡ t → condition_of names n s ≡ r
+          → cond {A = Result ℕ ℕ} t (Err 11) (verdict_of r) ≡ Ok v
           → Shallow s × ConditionMeans names n s v false
       go true r d p q = absurd (let z : ◌≡◌ {A = ℕ} 0 1 = cc in omega arith)
-      go false Nothing d p q = absurd (let z : ◌≡◌ {A = ℕ} 0 1 = cc in omega arith)
-      go false (Set w u next) d p q = (deep_false s d, flagged w u q (read_means w u next p))
+      go false None d p q = absurd (let z : ◌≡◌ {A = ℕ} 0 1 = cc in omega arith)
+      go false (Some part) d p q =
+          (deep_false s d, flagged part.set part.unknown q (read_means part p))
 
-  pub judge_shallow : (v : ℕ) → judge names n s ≡ Letters v → Shallow s
+  pub judge_shallow : (v : ℕ) → judge names n s ≡ Ok v → Shallow s
   judge_shallow v e = (judge_accepted v e).0
 
-  pub judge_letters : (v : ℕ) → judge names n s ≡ Letters v → ConditionMeans names n s v false
+  pub judge_letters : (v : ℕ) → judge names n s ≡ Ok v → ConditionMeans names n s v false
   judge_letters v e = (judge_accepted v e).1
 
   pub judge_means : (v : ℕ) → Shallow s → ConditionMeans names n s v false
-      → judge names n s ≡ Letters v
+      → judge names n s ≡ Ok v
   unfolding judge
   judge_means v h m = rw (shallow_false s h, means_read v false m)
 

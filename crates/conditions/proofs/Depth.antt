@@ -5,13 +5,14 @@ use Prim.Native.Char.{code}
 use Prim.Native.Nat.{ℕ, zero, suc, ◌+◌, ◌≤◌, ◌<◌}
 use native.Mathlib.Numerals.{add-one}
 use native.Mathlib.Omega.{arith}
-use borrow.Author.Tests.{ltb-true, ltb-false, lt-ltb, le-ltb}
+use borrow.Author.Tests.{ltb-true, ltb-false}
 use mathlib.Core.Bool.{Bool, true, false, ◌||◌, cond, true≢false}
 use mathlib.Core.List.{List, [], ◌∷◌}
 use mathlib.Core.Path.{◌≡◌, refl, sym, ap}
 use lib.Dec.{eqb, ltb}
 use lib.ListN.{length, get_or, take, drop, take-append-drop, drop_of_length-le}
 use lib.Seq.{drop-cons}
+use mir.Val.{bool_byte}
 use Rattle.text.specs.Lines.{count}
 use Rattle.text.proofs.Splits.{count_append}
 use Rattle.conditions.specs.Inner.Judge.{is_byte, deep}
@@ -113,24 +114,35 @@ free_shallow xs free = record {
   );
 }
 
--- The loop's turn.
-module _ (s : List ℕ) (o c i : ℕ) {x y : ℕ} (h : i < length s)
-    (p : x ≡ is_byte (get_or s i 0) (code "(")) (q : y ≡ is_byte (get_or s i 0) (code ")")) where
-  pub deep_stop : c + y + 8 < o + x → deep o c (drop i s) ≡ true
-  unfolding deep
-  deep_stop g = rw (drop-cons s i 0 h, ← p, ← q, lt-ltb (c + y + 8) (o + x) g)
+-- The loop's turn, where `usize::from` of a test counts its byte.
+byte_counts : (b x : ℕ) → bool_byte (eqb b x) ≡ is_byte b x
+byte_counts b x = go (eqb b x)
+  where
+    go : (t : Bool) → bool_byte t ≡ cond t 1 0
+    go true = refl
+    go false = refl
 
-  pub deep_next : o + x ≤ c + y + 8 → deep o c (drop i s) ≡ deep (o + x) (c + y) (drop (i + 1) s)
+pub byte_most : (t : Bool) → bool_byte t ≤ 1
+byte_most true = omega arith
+byte_most false = omega arith
+
+module _ (s : List ℕ) (o c i : ℕ) (h : i < length s) where
+  abbrev opened : ℕ
+  opened = o + bool_byte (eqb (get_or s i 0) (code "("))
+
+  abbrev closed : ℕ
+  closed = c + bool_byte (eqb (get_or s i 0) (code ")"))
+
+  pub deep_turn : deep o c (drop i s)
+      ≡ (ltb (closed + 8) opened || deep opened closed (drop (i + 1) s))
   unfolding deep
-  deep_next g = rw (add-one, drop-cons s i 0 h, ← p, ← q, le-ltb (c + y + 8) (o + x) g)
+  deep_turn = rw (
+    add-one,
+    drop-cons s i 0 h,
+    byte_counts (get_or s i 0) (code "("),
+    byte_counts (get_or s i 0) (code ")"),
+  )
 
 pub deep_end : (s : List ℕ) (o c i : ℕ) → length s ≤ i → deep o c (drop i s) ≡ false
 unfolding deep
 deep_end s o c i h = rw (drop_of_length-le s h)
-
-pub is_byte_most : {r : ℕ} (b x : ℕ) → r ≡ is_byte b x → r ≤ 1
-is_byte_most b x e = rw e (go (eqb b x))
-  where
-    go : (t : Bool) → cond t 1 0 ≤ 1
-    go true = omega arith
-    go false = omega arith

@@ -12,10 +12,9 @@ use Rattle.conditions.specs.Depth.{Shallow}
 use Rattle.conditions.specs.Inner.Judge.{deep, verdict_of, judge}
 use Rattle.conditions.specs.Judge.{RightCondition, is11, is12, is13, is_set}
 use Rattle.conditions.specs.Inner.Reading.{condition_of}
-use Rattle.conditions.specs.declared.Read.{Read}
-use Rattle.conditions.specs.declared.Read.TheVariants.{Set, Nothing}
-use Rattle.conditions.specs.declared.Judged.{Judged}
-use Rattle.conditions.specs.declared.Judged.TheVariants.{Letters, Refused}
+use Rattle.conditions.specs.declared.Part.{Part}
+use Rattle.std.specs.Prelude.{Option, Some, None}
+use Rattle.std.specs.Prelude.{Result, Ok, Err}
 use Rattle.conditions.proofs.Conditions.{read_means, nothing_read, means_read, judge_letters}
 use Rattle.conditions.proofs.Depth.{deep_true, deep_false, shallow_false, too_deep_true}
 
@@ -25,49 +24,51 @@ module _ (names : List Name) (n : ℕ) (xs : List ℕ) where
   judge_right = go (deep 0 0 xs) refl
     where
       flagged : (v : ℕ) (u : Bool) → Shallow xs → ConditionMeans names n xs v u
-          → RightCondition names n xs (cond u (Refused 13) (Letters v))
+          → RightCondition names n xs (cond {A = Result ℕ ℕ} u (Err 13) (Ok v))
       flagged v true h m = is13 h m
       flagged v false h m = is_set (record { shallow = h; means = m })
 
-      read : (r : Read) → condition_of names n xs ≡ r → Shallow xs
+      read : (r : Option Part) → condition_of names n xs ≡ r → Shallow xs
           → RightCondition names n xs (verdict_of r)
-      read (Set v u next) e h = flagged v u h (read_means names n xs v u next e)
-      read Nothing e h = is12 h (nothing_read names n xs e)
+      read (Some p) e h =
+          flagged p.set p.unknown h (read_means names n xs p e)
+      read None e h = is12 h (nothing_read names n xs e)
 
       go : (t : Bool) → deep 0 0 xs ≡ t
-          → RightCondition names n xs (cond t (Refused 11) (verdict_of (condition_of names n xs)))
+          → RightCondition names n xs (cond {A = Result ℕ ℕ} t (Err 11) (verdict_of (condition_of names n xs)))
       go true e = is11 (deep_true xs e)
       go false e = read (condition_of names n xs) refl (deep_false xs e)
 
-  pub right_judge : (r : Judged) → RightCondition names n xs r → judge names n xs ≡ r
+  pub right_judge : (r : Result ℕ ℕ) → RightCondition names n xs r → judge names n xs ≡ r
   unfolding judge
   right_judge r (is11 h) = rw (too_deep_true xs h)
   right_judge r (is12 h none) = rw (shallow_false xs h) (go (condition_of names n xs) refl)
     where
-      go : (r : Read) → condition_of names n xs ≡ r → verdict_of r ≡ Refused 12
-      go (Set v u next) e = absurd (none v u (read_means names n xs v u next e))
-      go Nothing e = refl
+      go : (r : Option Part) → condition_of names n xs ≡ r → verdict_of r ≡ Err 12
+      go (Some p) e =
+          absurd (none p.set p.unknown (read_means names n xs p e))
+      go None e = refl
   right_judge r (is13 {v} h m) = rw (shallow_false xs h, means_read names n xs v true m)
   right_judge r (is_set {v} c) =
       rw (shallow_false xs c.shallow, means_read names n xs v false c.means)
 
-  pub right_unique : {a b : Judged} → RightCondition names n xs a → RightCondition names n xs b
+  pub right_unique : {a b : Result ℕ ℕ} → RightCondition names n xs a → RightCondition names n xs b
       → a ≡ b
   right_unique {a} {b} h g = sym (right_judge a h) ∙ right_judge b g
 
   -- The numbers that a condition can get.
-  pub judge_number : (m : ℕ) → judge names n xs ≡ Refused m
+  pub judge_number : (m : ℕ) → judge names n xs ≡ Err m
       → (m ≡ 11) ⊎ ((m ≡ 12) ⊎ (m ≡ 13))
   judge_number m e = go (judge names n xs) judge_right e
     where
-      go : (r : Judged) → RightCondition names n xs r → r ≡ Refused m
+      go : (r : Result ℕ ℕ) → RightCondition names n xs r → r ≡ Err m
           → (m ≡ 11) ⊎ ((m ≡ 12) ⊎ (m ≡ 13))
       go r (is11 h) q = inl (cc)
       go r (is12 h none) q = inr (inl (cc))
       go r (is13 h m) q = inr (inr (cc))
       go r (is_set c) q = absurd (let z : ◌≡◌ {A = ℕ} 0 1 = cc in omega arith)
 
-  pub judge_some : (m : ℕ) → judge names n xs ≡ Refused m → (m ≡ 0 → ⊥)
+  pub judge_some : (m : ℕ) → judge names n xs ≡ Err m → (m ≡ 0 → ⊥)
   judge_some m e z = go (judge_number m e)
     where
       go : (m ≡ 11) ⊎ ((m ≡ 12) ⊎ (m ≡ 13)) → ⊥
@@ -76,7 +77,7 @@ module _ (names : List Name) (n : ℕ) (xs : List ℕ) where
       go (inr (inr k)) = omega arith
 
   -- No letter from n on is in the set.
-  pub judge_below : (v : ℕ) → judge names n xs ≡ Letters v → v < 2 ^ n
+  pub judge_below : (v : ℕ) → judge names n xs ≡ Ok v → v < 2 ^ n
   judge_below v e =
       let m = judge_letters names n xs v e in
       rw (← m.letters) (set_of_lt n (holds_at names m.tree))

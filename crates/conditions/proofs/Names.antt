@@ -1,24 +1,23 @@
 -- Names: the letters in front of some bytes, a name as a table value keeps it, and the name at a
 -- place. Assumes nothing.
 use Prim.Native.Nat.{ℕ, zero, suc, ◌+◌, ◌-◌, ◌≤◌, ◌<◌, min}
-use native.Mathlib.Numerals.{add-one}
 use native.Mathlib.Omega.{arith}
 use borrow.Author.Tests.{lt-ltb, le-ltb, ne_eqb}
 use mathlib.Core.Bool.{Bool, true, false, cond}
-use mathlib.Core.List.{List, [], ◌∷◌, ◌++◌, append_assoc}
+use mathlib.Core.List.{List, [], ◌∷◌, ◌++◌}
 use mathlib.Core.Path.{◌≡◌, refl, sym, ap}
 use lib.Dec.{eqb}
-use lib.ListN.{length, get_or, take, drop, set, replicate, length-drop}
-use lib.Seq.{take-suc, drop-cons, set_at, take_all, length-take-le}
+use lib.ListN.{length, take, drop, replicate, length-drop, length-take}
+use lib.Seq.{take_all, take-take}
 use Rattle.letters.specs.Letter.{signal_on, set_of}
 use Rattle.letters.specs.Lists.{every}
 use Rattle.letters.proofs.Lists.{and_left, and_right}
 use Rattle.table.specs.Name.{is_lowercase, name_run}
 use Rattle.table.specs.declared.Name.{Name}
-use Rattle.table.proofs.Laws.{name_run_le}
 use Rattle.conditions.specs.Condition.{name_of, place}
 use Rattle.conditions.specs.Inner.Reading.{name_at}
-use Rattle.conditions.specs.declared.Read.TheVariants.{Set, Nothing}
+use Rattle.conditions.specs.Inner.Reading.{some_part}
+use Rattle.std.specs.Prelude.{None}
 
 -- The letters in front.
 pub name_run_every : (xs : List ℕ) → every is_lowercase (take (name_run xs) xs) ≡ true
@@ -40,25 +39,9 @@ name_run_append (b ∷ w) rest h e = rw (
   name_run_append w rest (and_right (is_lowercase b) (every is_lowercase w) h) e,
 )
 
-pub name_run_ends : (s : List ℕ) (at : ℕ) {r : ℕ} → r ≡ name_run (drop at s) → (r ≡ 0 → ⊥)
-    → at + r ≤ length s
-name_run_ends s at e h = omega (arith, name_run_le (drop at s), length-drop at s)
-
--- A name that is filled in: i letters of w stand in front of what is left of the zeros.
+-- i letters of w in front of what is left of the zeros.
 abbrev pub filled : List ℕ → List ℕ → ℕ → List ℕ
 filled w zeros i = take i w ++ drop i zeros
-
-pub filled_next : (w zeros : List ℕ) (i : ℕ) → i < length w → i < length zeros
-    → set (filled w zeros i) i (get_or w i 0) ≡ filled w zeros (i + 1)
-filled_next w zeros i h g =
-    let places = length-take-le i w (omega arith) in
-    rw (
-      add-one,
-      drop-cons zeros i 0,
-      set_at (take i w) (get_or zeros i 0) (drop (suc i) zeros) (get_or w i 0) i places,
-      take-suc w i 0,
-      append_assoc,
-    )
 
 pub take_zeros : (m k : ℕ) → m ≤ k → take {A = ℕ} m (replicate k 0) ≡ replicate m 0
 take_zeros zero k h = refl
@@ -81,21 +64,32 @@ pub name_of_filled : (w letters : List ℕ) (i : ℕ) → letters ≡ filled w (
 unfolding name_of
 name_of_filled w letters i e h g f = rw (e, filled_end w i 8 8 g h f (omega arith))
 
+-- The first letters copied to the front of eight zeros.
+pub name_of_front : (s : List ℕ) (n : ℕ) {k : ℕ} → k ≡ min (min n (length s)) 8
+    → record { chars = take k s ++ drop k (replicate 8 0) } ≡ name_of (take n s)
+unfolding name_of
+name_of_front s n {k} e =
+    let long : length (take n s) ≡ min n (length s) = length-take n s in
+    let same : take k (take n s) ≡ take k s = take-take k n s (omega arith) in
+    rw (← same)
+    (ap (λ (l : List ℕ). record { chars = l })
+    (filled_end (take n s) k 8 8 (omega arith) (omega arith) (omega arith) (omega arith)))
+
 -- The name at a place, where r letters stand.
 module _ (names : List Name) (n : ℕ) (s : List ℕ) (at : ℕ) {r : ℕ}
     (run : r ≡ name_run (drop at s)) where
-  pub name_at_none : r ≡ 0 → Nothing ≡ name_at names n s at (name_run (drop at s))
+  pub name_at_none : r ≡ 0 → None ≡ name_at names n s at (name_run (drop at s))
   unfolding name_at
   name_at_none e = rw (← run, e)
 
-  pub name_at_long : 8 < r → Nothing ≡ name_at names n s at (name_run (drop at s))
+  pub name_at_long : 8 < r → None ≡ name_at names n s at (name_run (drop at s))
   unfolding name_at
   name_at_long h = rw (← run, ne_eqb r 0 (omega arith), lt-ltb 8 r h)
 
   pub name_at_some : {k used v : ℕ} {name : Name} → (r ≡ 0 → ⊥) → r ≤ 8
       → name ≡ name_of (take r (take (length s - at) (drop at s))) → k ≡ place names name
       → used ≡ length names → v ≡ set_of n (λ l. signal_on l k)
-      → Set v (eqb k used) (at + r) ≡ name_at names n s at (name_run (drop at s))
+      → some_part v (eqb k used) (at + r) ≡ name_at names n s at (name_run (drop at s))
   unfolding name_at
   name_at_some some few e p u w =
       let rest = take_all (length s - at) (drop at s) (rw length-drop (omega arith)) in

@@ -2,17 +2,20 @@
 -- where it settles the answer, `-end` past the last; that a name which is read is found exactly
 -- where it is kept; and that each of different names stands at its own place. Assumes nothing.
 use Prim.Native.Nat.{ℕ, zero, suc, ◌+◌, ◌-◌, ◌≤◌, ◌<◌}
-use native.Mathlib.Numerals.{add-one}
 use native.Mathlib.Omega.{arith}
 use borrow.Author.Tests.{ltb-true, lt-ltb, le-leb, not-true}
 use mathlib.Core.Bool.{Bool, true, false, ◌||◌, not, cond, true≢false}
 use mathlib.Core.List.{List, [], ◌∷◌, ◌++◌, map}
 use mathlib.Core.Path.{◌≡◌, refl, sym, ap, ◌∙◌}
-use lib.Dec.{ltb, leb-suc-suc}
-use lib.ListN.{length, get_or, take, drop, replicate, drop_of_length-le}
-use lib.Seq.{drop-cons, get_or-take, take-append_seam, take-append-add, drop-append_seam}
+use lib.Dec.{eqb, ltb, leb-suc-suc}
+use Rattle.std.proofs.lemmas.List.Sums.{prefix_len-le-length}
+use Rattle.std.specs.List.{position_or_len}
+use Rattle.std.specs.Cmp.Lexicographic.{pointwise}
+use Rattle.text.proofs.Parts.{pointwise_same}
+use lib.ListN.{length, take, replicate}
+use lib.Seq.{take-append_seam, take-append-add, drop-append_seam}
 use Rattle.letters.specs.Lists.{every, some}
-use Rattle.letters.proofs.Lists.{and_left, and_right, or_neither, lt_length_take}
+use Rattle.letters.proofs.Lists.{and_left, and_right, or_neither}
 use Rattle.letters.proofs.Lists.{same_bytes_refl, same_bytes_true, same_bytes_false}
 use Rattle.table.specs.Name.{name_run, same_name, name_valid, all_distinct}
 use Rattle.table.specs.Row.{is_zero}
@@ -21,24 +24,25 @@ use Rattle.text.specs.Lines.{All, none as All-none, and as all-and}
 use Rattle.conditions.specs.Condition.{IsName, name_of, place}
 use Rattle.conditions.proofs.Names.{name_run_append, take_zeros}
 
-module _ (n : ℕ) (names : List Name) (name : Name) (k : ℕ) (d : Name)
-    (h : k < n) (g : k < length names) where
-  place_drop : place (drop k (take n names)) name
-      ≡ cond (same_name name (get_or names k d)) 0 (suc (place (drop (k + 1) (take n names)) name))
-  unfolding place
-  place_drop = rw (drop-cons (take n names) k d (lt_length_take n names k h g), get_or-take, add-one)
-
-  pub place_next : same_name name (get_or names k d) ≡ false
-      → place (drop k (take n names)) name ≡ suc (place (drop (k + 1) (take n names)) name)
-  place_next e = rw (place_drop, e)
-
-  pub place_stop : same_name name (get_or names k d) ≡ true → place (drop k (take n names)) name ≡ 0
-  place_stop e = rw (place_drop, e)
-
-pub place_end : (names : List Name) (name : Name) (k : ℕ) → length names ≤ k
-    → place (drop k names) name ≡ 0
+-- The place of a name is where the library finds it, or how many names there are.
+pub place_position : (names : List Name) (name : Name)
+    → place names name ≡ position_or_len (λ known. pointwise eqb known.chars name.chars) names
 unfolding place
-place_end names name k h = rw (drop_of_length-le names h)
+place_position [] name = refl
+place_position (first ∷ names) name =
+    rw (pointwise_same name.chars first.chars)
+    (go (same_name name first) (place_position names name))
+  where
+    at : ℕ
+    at = position_or_len (λ known. pointwise eqb known.chars name.chars) names
+
+    go : (t : Bool) → place names name ≡ at
+        → cond t 0 (suc (place names name)) ≡ cond (not t) (1 + at) 0
+    go true ih = refl
+    go false ih = omega arith
+
+pub place_le : (names : List Name) (name : Name) → place names name ≤ length names
+place_le names name = rw place_position (prefix_len-le-length _ names)
 
 -- A name has a place below the number of names exactly where it stands among them.
 place_some : (names : List Name) (name : Name)

@@ -21,8 +21,9 @@ use Rattle.conditions.specs.Condition.Condition.{one_term, or, one_factor, and, 
 use Rattle.conditions.specs.Condition.Condition.{never, always, grouped}
 use Rattle.conditions.specs.Inner.Reading.{is_at, joined, others, closed, followed, signal}
 use Rattle.conditions.specs.Inner.Reading.{name_at, digit_at, reads}
-use Rattle.conditions.specs.declared.Read.{Read}
-use Rattle.conditions.specs.declared.Read.TheVariants.{Set, Nothing}
+use Rattle.conditions.specs.declared.Part.{Part}
+use Rattle.conditions.specs.Inner.Reading.{some_part}
+use Rattle.std.specs.Prelude.{Option, Some, None}
 use Rattle.conditions.proofs.Bytes.{is_at_cons, is_at_lt}
 use Rattle.conditions.proofs.Names.{name_run_every}
 use Rattle.table.proofs.Laws.{name_run_le}
@@ -38,9 +39,9 @@ pub record Wrote (names : List Name) (n : ℕ) (s : List ℕ) (k : Kind) (at v :
   pub flag : unknown names tree ≡ u
 
 module _ (names : List Name) (n : ℕ) (s : List ℕ) where
-  abbrev pub Sound : Kind → ℕ → Read → Type 0
-  Sound k at (Set v u next) = Wrote names n s k at v u next
-  Sound k at Nothing = Unit {0}
+  abbrev pub Sound : Kind → ℕ → Option Part → Type 0
+  Sound k at (Some p) = Wrote names n s k at p.set p.unknown p.next
+  Sound k at None = Unit {0}
 
   -- One or more parts joined by a byte: terms by `|`, factors by `&`.
   record Joining (k part : Kind) (b : ℕ) (f : ℕ → ℕ → ℕ) : Type 0 where
@@ -83,27 +84,27 @@ module _ (names : List Name) (n : ℕ) (s : List ℕ) where
   }
 
   module _ {k part : Kind} {b : ℕ} {f : ℕ → ℕ → ℕ} (j : Joining k part b f) (at : ℕ) where
-    joined_sound : (v : ℕ) (u : Bool) (next : ℕ) (q : Read) → is_at s next b ≡ true
-        → Wrote names n s part at v u next → Sound k (next + 1) q → Sound k at (joined f v u q)
-    joined_sound v u next Nothing e h g = tt
-    joined_sound v u next (Set w t last) e h g = record {
+    joined_sound : (p : Part) (q : Option Part) → is_at s p.next b ≡ true
+        → Sound part at (Some p) → Sound k (p.next + 1) q → Sound k at (joined f p.set p.unknown q)
+    joined_sound p None e h g = tt
+    joined_sound p (Some more) e h g = record {
       tree = j.more h.tree g.tree;
       starts = omega (arith, h.starts, g.starts);
       ends = g.ends;
       bytes = rw (j.more_text h.tree g.tree, append_assoc)
-          (h.bytes ∙ rw (is_at_cons s next b e, g.bytes));
+          (h.bytes ∙ rw (is_at_cons s p.next b e, g.bytes));
       letters = j.more_letters h.tree g.tree ∙ rw (h.letters, g.letters);
       flag = j.more_flag h.tree g.tree ∙ rw (h.flag, g.flag);
     }
 
-    followed_sound : (r : Read) (rest : ℕ → Read) → Sound part at r
+    followed_sound : (r : Option Part) (rest : ℕ → Option Part) → Sound part at r
         → ((m : ℕ) → Sound k m (rest m)) → Sound k at (followed s b rest f r)
-    followed_sound Nothing rest h g = tt
-    followed_sound (Set v u next) rest h g = go (is_at s next b) refl
+    followed_sound None rest h g = tt
+    followed_sound (Some p) rest h g = go (is_at s p.next b) refl
       where
-        go : (x : Bool) → is_at s next b ≡ x
-            → Sound k at (cond x (joined f v u (rest (next + 1))) (Set v u next))
-        go true e = joined_sound v u next (rest (next + 1)) e h (g (next + 1))
+        go : (x : Bool) → is_at s p.next b ≡ x
+            → Sound k at (cond x (joined f p.set p.unknown (rest (p.next + 1))) (Some p))
+        go true e = joined_sound p (rest (p.next + 1)) e h (g (p.next + 1))
         go false e = record {
           tree = j.one h.tree;
           starts = h.starts;
@@ -113,11 +114,11 @@ module _ (names : List Name) (n : ℕ) (s : List ℕ) where
           flag = j.one_flag h.tree ∙ h.flag;
         }
 
-  negated_sound : (at : ℕ) (r : Read) → is_at s at (code "!") ≡ true → Sound factor (at + 1) r
+  negated_sound : (at : ℕ) (r : Option Part) → is_at s at (code "!") ≡ true → Sound factor (at + 1) r
       → Sound factor at (others n r)
   unfolding text holds_at unknown
-  negated_sound at Nothing e h = tt
-  negated_sound at (Set v u next) e h = record {
+  negated_sound at None e h = tt
+  negated_sound at (Some p) e h = record {
     tree = negated h.tree;
     starts = omega (arith, h.starts);
     ends = h.ends;
@@ -126,21 +127,21 @@ module _ (names : List Name) (n : ℕ) (s : List ℕ) where
     flag = h.flag;
   }
 
-  grouped_sound : (at : ℕ) (r : Read) → is_at s at (code "(") ≡ true → Sound choice (at + 1) r
+  grouped_sound : (at : ℕ) (r : Option Part) → is_at s at (code "(") ≡ true → Sound choice (at + 1) r
       → Sound factor at (closed s r)
   unfolding text holds_at unknown
-  grouped_sound at Nothing e h = tt
-  grouped_sound at (Set v u next) e h = go (is_at s next (code ")")) refl
+  grouped_sound at None e h = tt
+  grouped_sound at (Some p) e h = go (is_at s p.next (code ")")) refl
     where
-      go : (b : Bool) → is_at s next (code ")") ≡ b
-          → Sound factor at (cond b (Set v u (next + 1)) Nothing)
+      go : (b : Bool) → is_at s p.next (code ")") ≡ b
+          → Sound factor at (cond b (some_part p.set p.unknown (p.next + 1)) None)
       go false q = tt
       go true q = record {
         tree = grouped h.tree;
         starts = omega (arith, h.starts);
-        ends = omega (arith, is_at_lt s next (code ")") q);
+        ends = omega (arith, is_at_lt s p.next (code ")") q);
         bytes = is_at_cons s at (code "(") e
-            ∙ rw (h.bytes, append_assoc, is_at_cons s next (code ")") q);
+            ∙ rw (h.bytes, append_assoc, is_at_cons s p.next (code ")") q);
         letters = h.letters;
         flag = h.flag;
       }
@@ -156,7 +157,7 @@ module _ (names : List Name) (n : ℕ) (s : List ℕ) where
       w = take r (drop at s)
 
       go : (a b : Bool) → eqb r 0 ≡ a → ltb 8 r ≡ b → Sound factor at
-          (cond (a || b) Nothing (signal names n s (place names (name_of w)) (at + r)))
+          (cond (a || b) None (signal names n s (place names (name_of w)) (at + r)))
       go true b p q = tt
       go false true p q = tt
       go false false p q =
@@ -182,7 +183,7 @@ module _ (names : List Name) (n : ℕ) (s : List ℕ) where
   digit_sound at = go (is_at s at (code "0")) (is_at s at (code "1")) refl refl
     where
       go : (a b : Bool) → is_at s at (code "0") ≡ a → is_at s at (code "1") ≡ b → Sound factor at
-          (cond a (Set 0 false (at + 1)) (cond b (Set (set_of n (λ _. true)) false (at + 1))
+          (cond a (some_part 0 false (at + 1)) (cond b (some_part (set_of n (λ _. true)) false (at + 1))
           (name_at names n s at (name_run (drop at s)))))
       go true b p q = record {
         tree = never;
@@ -202,7 +203,7 @@ module _ (names : List Name) (n : ℕ) (s : List ℕ) where
       }
       go false false p q = name_sound at
 
-  factor_sound : (at : ℕ) (r q : Read) → Sound factor (at + 1) r → Sound choice (at + 1) q
+  factor_sound : (at : ℕ) (r q : Option Part) → Sound factor (at + 1) r → Sound choice (at + 1) q
       → Sound factor at (cond (is_at s at (code "!")) (others n r)
       (cond (is_at s at (code "(")) (closed s q) (digit_at names n s at)))
   factor_sound at r q h g = go (is_at s at (code "!")) (is_at s at (code "(")) refl refl

@@ -1,10 +1,8 @@
 -- "11, 12, 13 over the whole condition", in this order.
-use Rattle.std.specs.Prelude.{ℕ, Bool, true, false, List}
+use Rattle.std.specs.Prelude.{ℕ, Bool, true, false, List, Result, Ok, Err}
 use Rattle.table.specs.declared.Name.{Name}
 use Rattle.conditions.specs.Condition.{ConditionMeans}
 use Rattle.conditions.specs.Depth.{Shallow, TooDeep}
-use Rattle.conditions.specs.declared.Judged.{Judged}
-use Rattle.conditions.specs.declared.Judged.TheVariants.{Letters, Refused}
 
 module _ (names : List Name) (n : ℕ) (xs : List ℕ) where
   -- A condition in the grammar, not too deep, with known names only; v is the set of the letters at
@@ -14,9 +12,9 @@ module _ (names : List Name) (n : ℕ) (xs : List ℕ) where
     pub means : ConditionMeans names n xs v false
 
   -- What is to be said of the bytes xs.
-  pub data RightCondition : Judged → Type 0 where
-    is11 : TooDeep xs → RightCondition (Refused 11)
+  pub data RightCondition : Result ℕ ℕ → Type 0 where
+    is11 : TooDeep xs → RightCondition (Err 11)
     is12 : Shallow xs → ((v : ℕ) (u : Bool) → ConditionMeans names n xs v u → ⊥)
-        → RightCondition (Refused 12)
-    is13 : {v : ℕ} → Shallow xs → ConditionMeans names n xs v true → RightCondition (Refused 13)
-    is_set : {v : ℕ} → IsCondition v → RightCondition (Letters v)
+        → RightCondition (Err 12)
+    is13 : {v : ℕ} → Shallow xs → ConditionMeans names n xs v true → RightCondition (Err 13)
+    is_set : {v : ℕ} → IsCondition v → RightCondition (Ok v)

@@ -2,310 +2,252 @@
 // which of 11, 12 and 13 other bytes get; specs/Inner/Reading.antt follows this code.
 #![tactic(auto)]
 
-ghost use Rattle.std.specs.Prelude.{◌≡◌, take, drop};
-ghost use Rattle.std.specs.Int.Bits.{bit_and, bit_or};
+ghost use Rattle.std.specs.Prelude.{◌≡◌, ℕ, ◌≤◌, ◌<◌, length, ◌%◌, take, drop, cond, eqb, Some, IfSome};
+ghost use Rattle.std.specs.List.{prefix_len};
 ghost use Rattle.letters.specs.Letter.{width};
-ghost use Rattle.table.specs.Name.{name_run};
+ghost use Rattle.table.specs.Name.{name_run, is_lowercase};
+ghost use Rattle.text.specs.Words.{not_sign};
 ghost use Rattle.conditions.specs.Condition.{name_of, place, Kind};
-ghost use Rattle.conditions.specs.Inner.Judge.{is_byte, deep, verdict_of, judge};
-ghost use Rattle.conditions.specs.Inner.Reading.{is_at, name_at, digit_at, joined, others};
-ghost use Rattle.conditions.specs.Inner.Reading.{closed, ReadsAs, wholly, condition_of};
+ghost use Rattle.conditions.specs.Inner.Judge.{deep, judge};
+ghost use Rattle.conditions.specs.Inner.Reading.{is_at, name_at, digit_at, others};
+ghost use Rattle.conditions.specs.Inner.Reading.{closed, JoinsTo, ReadsAs, condition_of};
 
-use table::{MOST_SIGNALS, NAME_CHARS, Name};
+use table::{MOST_SIGNALS, NAME_CHARS, Name, Signals};
 
 // At most so many parentheses are open at one place.
 const MOST_OPEN: usize = 8;
 
-// What was read: the set of letters, whether a name is unknown, and the place past it; or nothing.
-#[derive(Clone, Copy)]
-pub enum Read {
-    Set(u64, bool, usize),
-    Nothing,
-}
-
-// What is said of a condition: its set of letters, or the number for which it is turned down.
-#[derive(Clone, Copy)]
-pub enum Judged {
-    Letters(u64),
-    Refused(u8),
+// What was read: its set of letters, whether a name in it is unknown, and the place past it.
+#[derive(Clone, Copy, Debug, PartialEq, Eq)]
+pub struct Part {
+    pub set: u64,
+    pub unknown: bool,
+    pub next: usize,
 }
 
 // Whether the byte b stands at a place.
+#[tactic(auto, unfolding(crate::specs::Inner::Reading::is_at))]
 fn is_at(s: &[u8], at: usize, b: u8) -> bool
     ensures { result ≡ is_at s.now at b }
 {
-    if at < s.len() { s[at] == b } else { false }
+    s.get(at) == Some(&b)
 }
 
 // How many letters stand at a place.
 fn run_at(s: &[u8], at: usize) -> usize
-    ensures { result ≡ name_run (drop at s.now) }
+    ensures { result ≡ prefix_len is_lowercase (drop at s.now) }
 {
-    let mut i = at;
-    while i < s.len() {
-        if !table::names::is_lowercase(s[i]) {
-            return i - at;
-        }
-        i += 1;
-    }
-    i - at
+    s.iter()
+        .skip(at)
+        .take_while(|b| b.is_ascii_lowercase())
+        .count()
+}
+
+// How many `!` stand at a place.
+fn signs_at(s: &[u8], at: usize) -> usize
+    ensures { result ≡ prefix_len (λ b. eqb b not_sign) (drop at s.now) }
+{
+    s.iter().skip(at).take_while(|b| **b == b'!').count()
 }
 
 // The first n bytes as a name: at most eight of them, then zeros.
 pub fn name_of(s: &[u8], n: usize) -> Name
     ensures { result ≡ name_of (take n s.now) }
 {
+    let n = n.min(s.len()).min(NAME_CHARS);
     let mut chars = [0u8; NAME_CHARS];
-    let mut i: usize = 0;
-    while i < NAME_CHARS {
-        if n <= i {
-            return Name { chars };
-        }
-        if s.len() <= i {
-            return Name { chars };
-        }
-        chars[i] = s[i];
-        i += 1;
-    }
+    chars[..n].copy_from_slice(&s[..n]);
     Name { chars }
 }
 
-// How many of the first `signals` names stand before a name: all of them, where it is unknown.
-fn place_of(names: [Name; MOST_SIGNALS], signals: u8, name: Name) -> u8
-    ensures { result ≡ place (take signals names) name }
+// How many names stand before a name: all of them, where it is unknown.
+fn place_of(names: &[Name], name: Name) -> usize
+    ensures { result ≡ place names.now name }
 {
-    let mut k: u8 = 0;
-    while k < signals {
-        let i = k as usize;
-        if MOST_SIGNALS <= i {
-            return k;
-        }
-        if table::names::same_name(name, names[i]) {
-            return k;
-        }
-        k += 1;
-    }
-    k
+    names
+        .iter()
+        .position(|known| *known == name)
+        .unwrap_or(names.len())
 }
 
 // The name at a place: none and over eight letters are no name.
-fn name_at(s: &[u8], at: usize, names: [Name; MOST_SIGNALS], signals: u8) -> Read
-    ensures { result ≡ name_at (take signals names) (width signals) s.now at
-        (name_run (drop at s.now)) }
+fn name_at(s: &[u8], at: usize, signals: Signals) -> Option<Part>
+    ensures { result ≡ name_at (take signals.count signals.names)
+        (width signals.count) s.now at (name_run (drop at s.now)) }
 {
     let run = run_at(s, at);
-    if run == 0 {
-        return Read::Nothing;
+    if run == 0 || NAME_CHARS < run {
+        return None;
     }
-    if NAME_CHARS < run {
-        return Read::Nothing;
-    }
-    let name = name_of(&s[at..], run);
-    let k = place_of(names, signals, name);
-    let used = if (signals as usize) < MOST_SIGNALS {
-        signals as usize
-    } else {
-        MOST_SIGNALS
-    };
-    Read::Set(
-        letters::signal_set(signals, k),
-        k as usize == used,
-        at + run,
-    )
+    let used = usize::from(signals.count).min(MOST_SIGNALS);
+    let k = place_of(&signals.names[..used], name_of(&s[at..], run));
+    Some(Part {
+        set: letters::signal_set(signals.count, k as u8),
+        unknown: k == used,
+        next: at + run,
+    })
 }
 
 // `0`, `1` or a name.
-fn digit_at(s: &[u8], at: usize, names: [Name; MOST_SIGNALS], signals: u8) -> Read
-    ensures { result ≡ digit_at (take signals names) (width signals) s.now at }
+#[tactic(auto, unfolding(crate::specs::Inner::Reading::digit_at, crate::specs::Inner::Reading::is_at))]
+fn digit_at(s: &[u8], at: usize, signals: Signals) -> Option<Part>
+    ensures { result ≡ digit_at (take signals.count signals.names) (width signals.count)
+        s.now at }
 {
-    if is_at(s, at, b'0') {
-        Read::Set(0, false, at + 1)
-    } else if is_at(s, at, b'1') {
-        Read::Set(letters::all(signals), false, at + 1)
-    } else {
-        name_at(s, at, names, signals)
-    }
-}
-
-// The letters of either part; of both.
-fn either(v: u64, u: bool, more: Read) -> Read
-    ensures { result ≡ joined bit_or v u more }
-{
-    match more {
-        Read::Nothing => Read::Nothing,
-        Read::Set(w, t, last) => Read::Set(v | w, u | t, last),
-    }
-}
-
-fn both(v: u64, u: bool, more: Read) -> Read
-    ensures { result ≡ joined bit_and v u more }
-{
-    match more {
-        Read::Nothing => Read::Nothing,
-        Read::Set(w, t, last) => Read::Set(v & w, u | t, last),
-    }
-}
-
-// The other letters.
-fn negate(signals: u8, part: Read) -> Read
-    ensures { result ≡ others (width signals) part }
-{
-    match part {
-        Read::Nothing => Read::Nothing,
-        Read::Set(v, u, next) => Read::Set(letters::others(signals, v), u, next),
-    }
+    let set = match s.get(at) {
+        Some(b'0') => 0,
+        Some(b'1') => letters::all(signals.count),
+        _ => return name_at(s, at, signals),
+    };
+    Some(Part {
+        set,
+        unknown: false,
+        next: at + 1,
+    })
 }
 
 // A closing parenthesis has to follow.
-fn close(s: &[u8], part: Read) -> Read
-    ensures { result ≡ closed s.now part }
+#[tactic(auto, using(crate::proofs::Bytes::is_at_lt))]
+fn close(s: &[u8], part: Part) -> Option<Part>
+    ensures { result ≡ closed s.now (Some part) }
 {
-    match part {
-        Read::Nothing => Read::Nothing,
-        Read::Set(v, u, next) => {
-            if is_at(s, next, b')') {
-                Read::Set(v, u, next + 1)
-            } else {
-                Read::Nothing
-            }
-        }
+    if !is_at(s, part.next, b')') {
+        return None;
     }
+    Some(Part {
+        next: part.next + 1,
+        ..part
+    })
+}
+
+// A part after so many `!`: two are none.
+fn signed(signs: usize, part: Part, signals: Signals) -> Part
+    ensures { Some result ≡ cond (eqb (signs % 2) 1) (others (width signals.count) (Some part))
+        (Some part) }
+{
+    if signs % 2 == 1 {
+        Part {
+            set: letters::others(signals.count, part.set),
+            ..part
+        }
+    } else {
+        part
+    }
+}
+
+// One or more parts joined by a sign.
+fn joined<J: Fn(u64, u64) -> u64, P: Fn(usize) -> Option<Part>>(
+    s: &[u8],
+    at: usize,
+    sign: u8,
+    join: J,
+    part: P,
+) -> Option<Part>
+    requires join { J.IsAlwaysCallable join }
+    requires part { (i : ℕ) → at ≤ i → P.pre part i }
+    requires past { (i : ℕ) (r : _) → P.post part i r → IfSome r (λ p. i < p.next) }
+    ensures { JoinsTo s.now at sign (J.post join) (P.post part) result }
+{
+    let mut all = part(at)?;
+    while is_at(s, all.next, sign) {
+        let more = part(all.next + 1)?;
+        all = Part {
+            set: join(all.set, more.set),
+            unknown: all.unknown | more.unknown,
+            next: more.next,
+        };
+    }
+    Some(all)
 }
 
 // A choice: one or more terms joined by `|`.
 #[cycle(choice_factor_term)]
-fn choice(s: &[u8], at: usize, names: [Name; MOST_SIGNALS], signals: u8) -> Read
-    ensures { ReadsAs (take signals names) (width signals) s.now
+fn choice(s: &[u8], at: usize, signals: Signals) -> Option<Part>
+    ensures { ReadsAs (take signals.count signals.names) (width signals.count) s.now
         Kind.choice at result }
 {
-    let Read::Set(mut v, mut u, mut next) = term(s, at, names, signals) else {
-        return Read::Nothing;
-    };
-    while is_at(s, next, b'|') {
-        let more = term(s, next + 1, names, signals);
-        let Read::Set(w, t, last) = either(v, u, more) else {
-            return Read::Nothing;
-        };
-        v = w;
-        u = t;
-        next = last;
-    }
-    Read::Set(v, u, next)
+    joined(
+        s,
+        at,
+        b'|',
+        |v, w| v | w,
+        |i: usize| -> Option<Part>
+            ensures { ReadsAs (take signals.count signals.names)
+                (width signals.count) s.entry.now Kind.term i result }
+        { term(s, i, signals) },
+    )
 }
 
 // A term: one or more factors joined by `&`.
 #[cycle(choice_factor_term)]
-fn term(s: &[u8], at: usize, names: [Name; MOST_SIGNALS], signals: u8) -> Read
-    ensures { ReadsAs (take signals names) (width signals) s.now
+fn term(s: &[u8], at: usize, signals: Signals) -> Option<Part>
+    ensures { ReadsAs (take signals.count signals.names) (width signals.count) s.now
         Kind.term at result }
 {
-    let Read::Set(mut v, mut u, mut next) = factor(s, at, names, signals) else {
-        return Read::Nothing;
-    };
-    while is_at(s, next, b'&') {
-        let more = factor(s, next + 1, names, signals);
-        let Read::Set(w, t, last) = both(v, u, more) else {
-            return Read::Nothing;
-        };
-        v = w;
-        u = t;
-        next = last;
-    }
-    Read::Set(v, u, next)
+    joined(
+        s,
+        at,
+        b'&',
+        |v, w| v & w,
+        |i: usize| -> Option<Part>
+            ensures { ReadsAs (take signals.count signals.names)
+                (width signals.count) s.entry.now Kind.factor i result }
+        { factor(s, i, signals) },
+    )
 }
 
-// A factor: any number of `!`, then a choice in parentheses, or `0`, `1` or a name. Two `!`
-// are none.
+// A factor: any number of `!`, then a choice in parentheses, or `0`, `1` or a name.
 #[cycle(choice_factor_term)]
-fn factor(s: &[u8], at: usize, names: [Name; MOST_SIGNALS], signals: u8) -> Read
-    ensures { ReadsAs (take signals names) (width signals) s.now
+fn factor(s: &[u8], at: usize, signals: Signals) -> Option<Part>
+    ensures { ReadsAs (take signals.count signals.names) (width signals.count) s.now
         Kind.factor at result }
 {
-    let mut i = at;
-    let mut odd = false;
-    while is_at(s, i, b'!') {
-        odd = !odd;
-        i += 1;
-    }
-    let part = if is_at(s, i, b'(') {
-        close(s, choice(s, i + 1, names, signals))
+    let signs = signs_at(s, at);
+    let from = at + signs;
+    let part = if is_at(s, from, b'(') {
+        close(s, choice(s, from + 1, signals)?)?
     } else {
-        digit_at(s, i, names, signals)
+        digit_at(s, from, signals)?
     };
-    if odd { negate(signals, part) } else { part }
+    Some(signed(signs, part, signals))
 }
 
-// Nothing may be left over.
-fn whole(end: usize, part: Read) -> Read
-    ensures { result ≡ wholly end part }
+// A condition: nothing may be left over.
+#[tactic(auto, using(crate::proofs::Steps::condition_of_reads))]
+fn read_condition(s: &[u8], signals: Signals) -> Option<Part>
+    ensures { result ≡ condition_of (take signals.count signals.names)
+        (width signals.count) s.now }
 {
-    match part {
-        Read::Nothing => Read::Nothing,
-        Read::Set(v, u, next) => {
-            if next == end {
-                Read::Set(v, u, next)
-            } else {
-                Read::Nothing
-            }
-        }
-    }
-}
-
-fn read_condition(s: &[u8], names: [Name; MOST_SIGNALS], signals: u8) -> Read
-    ensures { result ≡ condition_of (take signals names) (width signals) s.now }
-{
-    whole(s.len(), choice(s, 0, names, signals))
-}
-
-// What is said of what was read.
-fn verdict(part: Read) -> Judged
-    ensures { result ≡ verdict_of part }
-{
-    match part {
-        Read::Nothing => Judged::Refused(12),
-        Read::Set(v, u, _) => {
-            if u {
-                Judged::Refused(13)
-            } else {
-                Judged::Letters(v)
-            }
-        }
-    }
-}
-
-// 1 where the byte b is x, else 0.
-fn is_byte(b: u8, x: u8) -> usize
-    ensures { result ≡ is_byte b x }
-{
-    if b == x { 1 } else { 0 }
+    let part = choice(s, 0, signals)?;
+    (part.next == s.len()).then_some(part)
 }
 
 // Whether over eight parentheses are open at some place.
+#[tactic(auto, using(crate::proofs::Depth::deep_turn, crate::proofs::Depth::deep_end, crate::proofs::Depth::byte_most))]
 fn too_deep(s: &[u8]) -> bool
     ensures { result ≡ deep 0 0 s.now }
 {
     let mut opened: usize = 0;
     let mut closed: usize = 0;
-    let mut i: usize = 0;
-    while i < s.len() {
-        let b = s[i];
-        opened += is_byte(b, b'(');
-        closed += is_byte(b, b')');
+    for b in s {
+        opened += usize::from(*b == b'(');
+        closed += usize::from(*b == b')');
         if closed + MOST_OPEN < opened {
             return true;
         }
-        i += 1;
     }
     false
 }
 
-// The letters of a condition over the first `signals` names; or 11, 12 or 13, in this order.
-pub fn judge_condition(s: &[u8], names: [Name; MOST_SIGNALS], signals: u8) -> Judged
-    ensures { result ≡ judge (take signals names) (width signals) s.now }
+// The letters of a condition over the names of the signals; or 11, 12 or 13, in this order.
+#[tactic(auto, unfolding(crate::specs::Inner::Judge::judge))]
+pub fn judge_condition(s: &[u8], signals: Signals) -> Result<u64, u8>
+    ensures { result ≡ judge (take signals.count signals.names)
+        (width signals.count) s.now }
 {
     if too_deep(s) {
-        Judged::Refused(11)
-    } else {
-        verdict(read_condition(s, names, signals))
+        return Err(11);
     }
+    let part = read_condition(s, signals).ok_or(12)?;
+    if part.unknown { Err(13) } else { Ok(part.set) }
 }

@@ -8,6 +8,7 @@ use mathlib.Core.List.{List, [], ◌∷◌, ◌++◌, map}
 use mathlib.Core.Path.{◌≡◌, refl, sym, ap, ◌∙◌}
 use lib.Dec.{eqb, leb}
 use lib.ListN.{length, take, drop, take-append-drop, length-append, length-drop}
+use Rattle.std.specs.Prelude.{Result, Ok, Err}
 use Rattle.letters.specs.Lists.{every, same_bytes}
 use Rattle.letters.proofs.Lists.{and_left, and_right, same_bytes_true, same_bytes_false}
 use Rattle.letters.proofs.Lists.{same_bytes_refl}
@@ -21,11 +22,8 @@ use Rattle.text.specs.Inner.Cut.{split}
 use Rattle.text.proofs.Joins.{split_joined, joined_split, joined_free, passing_free}
 use Rattle.conditions.specs.Condition.{IsName, name_of}
 use Rattle.header.specs.Header.{is_digit16, IsHeader, version_line, IsSignals, names_from}
-use Rattle.header.specs.Inner.Header.{version_answer, name_shaped, signals_number}
-use Rattle.header.specs.Inner.Header.{signals_answer}
-use Rattle.header.specs.Inner.Header.{signals_refused}
-use Rattle.header.specs.declared.Signals.{Signals}
-use Rattle.header.specs.declared.VersionRead.TheVariants.{Known, Refused}
+use Rattle.header.specs.Inner.Header.{version_answer, name_shaped, names_read, signals_answer}
+use Rattle.table.specs.declared.Signals.{Signals}
 
 -- Line 1.
 abbrev shaped : List ℕ → Bool
@@ -57,26 +55,26 @@ module _ (line digits : List ℕ) (header : IsHeader line digits) where
       rw (header.line_is, long, header.digits)
 
   pub header_known : (version : Version) → digits ≡ version_digits version
-      → version_answer line ≡ Known version
+      → version_answer line ≡ Ok version
   unfolding version_answer
   header_known First e =
       let same = same_bytes_refl version1 in
       rw (header_shaped, header.line_is, e, same)
 
   pub header_other : ((version : Version) → digits ≡ version_digits version → ⊥)
-      → version_answer line ≡ Refused 5
+      → version_answer line ≡ Err 5
   unfolding version_answer
   header_other other =
       rw (header_shaped, header.line_is, same_bytes_false digits version1 (other First))
 
 pub header_none : (line : List ℕ) → ((digits : List ℕ) → IsHeader line digits → ⊥)
-    → version_answer line ≡ Refused 4
+    → version_answer line ≡ Err 4
 unfolding version_answer
 header_none line h = go (shaped line) refl
   where
     go : (t : Bool) → shaped line ≡ t
-        → cond t (cond (same_bytes (drop 4 line) version1) (Known First) (Refused 5)) (Refused 4)
-        ≡ Refused 4
+        → cond {A = Result Version ℕ} t (cond (same_bytes (drop 4 line) version1) (Ok First) (Err 5)) (Err 4)
+        ≡ Err 4
     go true e = absurd (h (drop 4 line) (shaped_header line e))
     go false e = refl
 
@@ -144,7 +142,13 @@ names_free b e names (and {a} {more} h all) =
 
 -- Line 2.
 abbrev pub signals_read : List (List ℕ) → Signals
-signals_read names = record { number = 0; count = length names; names = names_from names }
+signals_read names = record { count = length names; names = names_from names }
+
+-- Whether line 2 has its shape.
+abbrev words_shaped : List (List ℕ) → Bool
+words_shaped [] = false
+words_shaped (word ∷ names) =
+    same_bytes word signals_word && leb 1 (length names) && every name_shaped names
 
 module _ (line : List ℕ) (names : List (List ℕ)) (signals : IsSignals line names) where
   words_free : (b : ℕ) → is_lowercase b ≡ false → count b signals_word ≡ 0
@@ -163,51 +167,41 @@ module _ (line : List ℕ) (names : List (List ℕ)) (signals : IsSignals line n
       ap (count LF) signals.line_is
       ∙ joined_free space LF refl (signals_word ∷ names) (words_free LF refl refl)
 
-  signals_number_lem : signals_number (signals_word ∷ names)
-      ≡ cond (leb (length names) most_signals) (cond (all_distinct (map name_of names)) 0 8) 7
-  unfolding signals_number
-  signals_number_lem =
+  signals_shaped : words_shaped (split space line) ≡ true
+  signals_shaped =
       rw (
+        signals_split,
         same_bytes_refl signals_word,
         le-leb 1 (length names) signals.some,
         names_shaped names signals.named,
       )
 
-  pub signals_many : most_signals < length names → signals_answer (split space line)
-      ≡ signals_refused 7
+  pub signals_names : signals_answer (split space line) ≡ names_read names
   unfolding signals_answer
-  signals_many h = rw (signals_split, signals_number_lem, lt-leb (length names) most_signals h)
+  signals_names =
+      rw (
+        signals_split,
+        same_bytes_refl signals_word,
+        le-leb 1 (length names) signals.some,
+        names_shaped names signals.named,
+      )
+
+  pub signals_many : most_signals < length names → signals_answer (split space line) ≡ Err 7
+  unfolding names_read
+  signals_many h = signals_names ∙ rw (lt-leb (length names) most_signals h)
 
   module _ (few : length names ≤ most_signals) where
     pub signals_twice : all_distinct (map name_of names) ≡ false
-        → signals_answer (split space line) ≡ signals_refused 8
-    unfolding signals_answer
-    signals_twice h =
-        rw (signals_split, signals_number_lem, le-leb (length names) most_signals few, h)
+        → signals_answer (split space line) ≡ Err 8
+    unfolding names_read
+    signals_twice h = signals_names ∙ rw (le-leb (length names) most_signals few, h)
 
     pub signals_read_lem : all_distinct (map name_of names) ≡ true
-        → signals_answer (split space line) ≡ signals_read names
-    unfolding signals_answer
-    signals_read_lem h =
-        rw (signals_split, signals_number_lem, le-leb (length names) most_signals few, h)
+        → signals_answer (split space line) ≡ Ok (signals_read names)
+    unfolding names_read
+    signals_read_lem h = signals_names ∙ rw (le-leb (length names) most_signals few, h)
 
--- Whether line 2 is misshapen.
-abbrev words_shaped : List (List ℕ) → Bool
-words_shaped [] = false
-words_shaped (word ∷ names) =
-    same_bytes word signals_word && leb 1 (length names) && every name_shaped names
-
-signals_shaped : (line : List ℕ) (names : List (List ℕ)) → IsSignals line names
-    → words_shaped (split space line) ≡ true
-signals_shaped line names s =
-    rw (
-      signals_split line names s,
-      same_bytes_refl signals_word,
-      le-leb 1 (length names) s.some,
-      names_shaped names s.named,
-    )
-
-shaped_signals : (line : List ℕ) → words_shaped (split space line) ≡ true
+pub shaped_signals : (line : List ℕ) → words_shaped (split space line) ≡ true
     → IsSignals line (drop 1 (split space line))
 shaped_signals line h = go (split space line) (joined_split space line) h
   where
@@ -237,17 +231,17 @@ line2_found line = go (words_shaped (split space line)) refl
     go true e = signals (drop 1 (split space line)) (shaped_signals line e)
     go false e = misshapen (λ names s. true≢false (sym (signals_shaped line names s) ∙ e))
 
+pub signals_misshapen : (words : List (List ℕ)) → words_shaped words ≡ false
+    → signals_answer words ≡ Err 6
+unfolding signals_answer
+signals_misshapen [] h = refl
+signals_misshapen (word ∷ names) h = rw h
+
 pub signals_none : (line : List ℕ) → ((names : List (List ℕ)) → IsSignals line names → ⊥)
-    → signals_answer (split space line) ≡ signals_refused 6
-unfolding signals_answer signals_number
-signals_none line h = go (split space line) (λ e. h _ (shaped_signals line e))
+    → signals_answer (split space line) ≡ Err 6
+signals_none line h = go (words_shaped (split space line)) refl
   where
-    go : (words : List (List ℕ)) → (words_shaped words ≡ true → ⊥)
-        → signals_answer words ≡ signals_refused 6
-    go [] h = refl
-    go (word ∷ names) h = all (words_shaped (word ∷ names)) refl
-      where
-        all : (t : Bool) → words_shaped (word ∷ names) ≡ t
-            → signals_answer (word ∷ names) ≡ signals_refused 6
-        all true e = absurd (h e)
-        all false e = rw e
+    go : (t : Bool) → words_shaped (split space line) ≡ t
+        → signals_answer (split space line) ≡ Err 6
+    go true e = absurd (h _ (shaped_signals line e))
+    go false e = signals_misshapen (split space line) e

@@ -1,68 +1,35 @@
 -- Line 2, word by word: what the loop over its words keeps, and what it comes to. Assumes nothing.
 use Prim.Native.Nat.{ℕ, zero, suc, ◌+◌, ◌-◌, ◌<◌, ◌≤◌}
-use native.Mathlib.Decide.{dec_le, dec_lt, ℕ_discrete}
+use native.Mathlib.Decide.{dec_lt, dec_le}
 use native.Mathlib.Numerals.{add-one}
 use native.Mathlib.Omega.{arith}
-use mathlib.Core.Bool.{Bool, true, false, ◌&&◌, cond, and-false}
-use mathlib.Core.List.{List, [], ◌∷◌, ◌++◌, map, map-append, append_assoc, append-nil}
-use mathlib.Core.Path.{◌≡◌, refl, sym, ap, ap₂, ◌∙◌}
-use borrow.Author.Tests.{eq-eqb, ne_eqb, lt-ltb, le-ltb}
-use lib.Dec.{leb, ltb, eqb-suc-zero}
-use lib.ListN.{length, take, drop, set, replicate, length-append, length-map, drop_of_length-le}
-use lib.Seq.{drop-cons, drop-drop, drop-length, take-append-le, set_at, take-append-add}
-use lib.Seq.{drop-append_seam, append_snoc, take_at}
+use mathlib.Core.Bool.{Bool, true, false, cond, true≢false}
+use mathlib.Core.List.{List, [], ◌∷◌, ◌++◌, map, map-append}
+use mathlib.Core.Path.{◌≡◌, refl, sym, ap, ◌∙◌}
+use borrow.Author.Tests.{lt-ltb, le-ltb, lt-leb, le-leb}
+use lib.Dec.{eqb, ltb}
+use lib.ListN.{length, get_or, take, drop, set, replicate, length-append, length-map, take-append-drop}
+use lib.Seq.{take-append-le, set_at, take-append-add, take-suc, take_all, length-take-le}
+use lib.Seq.{append_snoc, take_at, ext_get_or}
+use native.Mathlib.Nat.{zero-add}
+use Rattle.std.specs.List.{enumerate_from, slice_split}
+use Rattle.std.proofs.lemmas.List.FromFn.{length-enumerate_from, get_or-enumerate_from}
+use lib.ListN.{get_or-replicate}
+use Rattle.std.specs.Prelude.{Result, Ok, Err}
 use Rattle.letters.specs.Lists.{every, same_bytes}
-use Rattle.letters.proofs.Lists.{every_append}
+use Rattle.letters.proofs.Lists.{every_append, every_at, same_bytes_true, same_bytes_refl}
 use Rattle.table.specs.Limits.{most_signals}
-use Rattle.table.specs.Name.{all_distinct}
 use Rattle.table.specs.declared.Name.{Name}
+use Rattle.table.specs.declared.Signals.{Signals}
 use Rattle.text.specs.Lines.{count, space, joined}
 use Rattle.text.specs.Words.{signals_word}
-use Rattle.text.specs.Inner.Cut.{split, front, after}
-use Rattle.text.proofs.Splits.{front_whole, split_front, split_cons, front_after}
+use Rattle.text.specs.Inner.Cut.{split}
+use Rattle.text.proofs.Splits.{split_length, split_append, split_slice}
 use Rattle.conditions.specs.Condition.{name_of}
 use Rattle.header.specs.Header.{IsSignals, no_name, names_from}
-use Rattle.header.specs.Inner.Header.{name_shaped, signals_number, signals_refused}
-use Rattle.header.specs.Inner.Header.{signals_answer}
-use Rattle.text.proofs.Joins.{joined_split}
-use Rattle.header.proofs.Shapes.{shaped_names, signals_many, signals_twice, signals_read_lem}
+use Rattle.header.specs.Inner.Header.{name_shaped, names_read, signals_answer}
 use Rattle.header.specs.Inner.Gathering.{name_added, names_answer}
-
--- The words after a word that has ended: nothing is left, or a separator and words.
-unfoldable pub words_after : ℕ → List ℕ → List (List ℕ)
-words_after b [] = []
-words_after b (x ∷ xs) = split b xs
-
-pub split_words : (b : ℕ) (xs : List ℕ)
-    → split b xs ≡ front b xs ∷ words_after b (drop (length (front b xs)) xs)
-unfolding words_after
-split_words b xs = go (dec_le 1 (count b xs))
-  where
-    go : Dec (1 ≤ count b xs) → split b xs
-        ≡ front b xs ∷ words_after b (drop (length (front b xs)) xs)
-    go (yes h) =
-        split_cons b xs h ∙ ap (λ (ws : List (List ℕ)). front b xs ∷ ws)
-        (sym (ap (λ (ys : List ℕ). words_after b (drop (length (front b xs)) ys))
-        (sym (front_after b xs h))
-        ∙ ap (words_after b) (drop-append_seam (front b xs) (b ∷ after b xs))))
-    go (no h) =
-        let none : count b xs ≡ 0 = omega arith in
-        split_front b xs none ∙ sym (rw (front_whole b xs none, drop-length xs))
-
--- One word more, at a separator.
-pub words_next : (b : ℕ) (l : List ℕ) (at : ℕ) → at < length l
-    → let word = front b (drop (at + 1) l) in
-    words_after b (drop at l) ≡ word ∷ words_after b (drop (at + 1 + length word) l)
-unfolding words_after
-words_next b l at h =
-    let word = front b (drop (at + 1) l) in
-    ap (words_after b) (drop-cons l at 0 h) ∙ ap (λ (k : ℕ). split b (drop k l)) (sym (add-one at))
-    ∙ split_words b (drop (at + 1) l)
-    ∙ ap (λ (ys : List ℕ). word ∷ words_after b ys) (drop-drop (length word) (at + 1) l)
-
-pub words_end : (b : ℕ) (l : List ℕ) (at : ℕ) → length l ≤ at → words_after b (drop at l) ≡ []
-unfolding words_after
-words_end b l at h = rw (drop_of_length-le l h)
+use Rattle.header.proofs.Shapes.{signals_none}
 
 -- The names kept of the words so far: at most six, the other places 0.
 abbrev pub kept_of : List (List ℕ) → List Name
@@ -101,7 +68,6 @@ added_many xs ys v m h =
 
 kept_added : (ws : List (List ℕ)) (w : List ℕ) → name_added (kept_of ws) (length ws) (name_of w)
     ≡ kept_of (ws ++ (w ∷ []))
-unfolding name_added
 kept_added ws w = go (dec_lt (length ws) most_signals)
   where
     long : length (map name_of ws) ≡ length ws
@@ -131,148 +97,169 @@ kept_added ws w = go (dec_lt (length ws) most_signals)
         (added_many (map name_of ws) (replicate most_signals no_name) (name_of w) most_signals
         (omega (arith, long)))
 
--- What holds when the words `done` of the line have been read, up to the place `at`.
-pub record Naming (line : List ℕ) (done : List (List ℕ)) (names : List Name) (n at : ℕ) : Type 0
-  where
-    pub words : words_after space (drop 7 line) ≡ done ++ words_after space (drop at line)
-    pub right : every name_shaped done ≡ true
-    pub many : length done ≡ n
-    pub kept : names ≡ kept_of done
-
--- What line 2 gives, by its number.
-answer_refused : (words : List (List ℕ)) (m : ℕ) → signals_number words ≡ suc m
-    → signals_answer words ≡ signals_refused (suc m)
-unfolding signals_answer
-answer_refused words m e = rw (e, eqb-suc-zero m)
-
--- The first word is another one.
-number_word : (w : List ℕ) (ws : List (List ℕ)) → same_bytes w signals_word ≡ false
-    → signals_number (w ∷ ws) ≡ 6
-unfolding signals_number
-number_word w ws e = rw e
-
-pub answer_word : (l : List ℕ) → same_bytes (front space l) signals_word ≡ false
-    → signals_answer (split space l) ≡ signals_refused 6
-answer_word l e = answer_refused (split space l) 5
-    (rw (split_words space l) (number_word (front space l) _ e))
-
-module _ (l : List ℕ) (first : front space l ≡ signals_word) where
-  words_are : split space l ≡ signals_word ∷ words_after space (drop 7 l)
-  words_are = split_words space l ∙ rw first
-
-  abbrev ws : List (List ℕ)
-  ws = words_after space (drop 7 l)
-
-  pub answer_name : every name_shaped ws ≡ false → signals_answer (split space l) ≡ signals_refused 6
-  unfolding signals_number
-  answer_name e = rw words_are (answer_refused (signals_word ∷ ws) 5
-      (rw (e, and-false (same_bytes signals_word signals_word && leb 1 (length ws)))))
-
-  pub answer_none : ws ≡ [] → signals_answer (split space l) ≡ signals_refused 6
-  unfolding signals_number same_bytes
-  answer_none e = rw (words_are, e) (answer_refused (signals_word ∷ []) 5 refl)
-
-  module _ (right : every name_shaped ws ≡ true) (some : 1 ≤ length ws) where
-    pub line_shaped : IsSignals l ws
-    line_shaped = record {
-      line_is = sym (joined_split space l) ∙ ap (joined space) words_are;
-      some = some;
-      named = shaped_names ws right;
-    }
-
--- The loop over the words.
-pub naming_starts : (line : List ℕ) → Naming line [] (replicate most_signals no_name) 0 7
-unfolding every
-naming_starts line = record { words = refl; right = refl; many = refl; kept = refl }
-
-module _ (line : List ℕ) (done : List (List ℕ)) (names : List Name) (n at : ℕ)
-    (p : Naming line done names n at) where
-  -- a word that is no name
-  pub naming_stops : at < length line → name_shaped (front space (drop (at + 1) line)) ≡ false
-      → every name_shaped (words_after space (drop 7 line)) ≡ false
-  unfolding every
-  naming_stops h e =
-      rw (p.words, words_next space line at h, every_append name_shaped done _, e)
-      (and-false (every name_shaped done))
-
-  -- all words are read
-  pub naming_ends : length line ≤ at → words_after space (drop 7 line) ≡ done
-  naming_ends h = p.words ∙ rw (words_end space line at h) (append-nil done)
-
-  -- one name more
-  pub naming_next : at < length line → let word = front space (drop (at + 1) line) in
-      name_shaped word ≡ true → Naming line (done ++ (word ∷ [])) (name_added names n (name_of word))
-      (n + 1) (at + 1 + length word)
-  unfolding every
-  naming_next h e =
-      let word = front space (drop (at + 1) line) in
-      record {
-        words = p.words ∙ rw (words_next space line at h) (sym (append_assoc done (word ∷ []) _));
-        right = rw (every_append name_shaped done (word ∷ []), p.right, e);
-        many = length-append done (word ∷ []) ∙ omega (arith, p.many);
-        kept = ap₂ (λ (l : List Name) (k : ℕ). name_added l k (name_of word)) p.kept
-            (sym p.many) ∙ kept_added done word;
-      }
-
 pub length_none : {A : Type 0} (xs : List A) → length xs ≡ 0 → xs ≡ []
 length_none [] e = refl
 length_none (x ∷ xs) e = absurd (omega arith)
 
--- When all words are read: each answer of the line.
-module _ (line : List ℕ) (first : front space line ≡ signals_word) (done : List (List ℕ))
-    (names : List Name) (n at : ℕ)
-    (p : Naming line done names n at) (end : length line ≤ at) where
-  all : words_after space (drop 7 line) ≡ done
-  all = naming_ends line done names n at p end
+-- What line 2 begins with, and the words past that.
+abbrev pub start : List ℕ
+start = signals_word ++ space ∷ []
 
-  all_right : every name_shaped (words_after space (drop 7 line)) ≡ true
-  all_right = rw all p.right
+abbrev pub words : List ℕ → List (List ℕ)
+words line = split space (drop 8 line)
 
-  all_many : length (words_after space (drop 7 line)) ≡ n
-  all_many = rw all p.many
+module _ (line : List ℕ) where
+  signals_start : (names : List (List ℕ)) → IsSignals line names
+      → same_bytes (take 8 line) start ≡ true
+  unfolding same_bytes joined
+  signals_start [] s = absurd (let some = s.some in omega arith)
+  signals_start (name ∷ []) s = rw s.line_is
+  signals_start (name ∷ next ∷ more) s = rw s.line_is
 
-  ends_none : n ≡ 0 → signals_answer (split space line) ≡ signals_refused 6
-  ends_none e = answer_none line first (all ∙ length_none done (p.many ∙ e))
+  pub answer_start : same_bytes (take 8 line) start ≡ false
+      → signals_answer (split space line) ≡ Err 6
+  answer_start e = signals_none line (λ names s. true≢false (sym (signals_start names s) ∙ e))
 
-  module _ (some : n ≡ 0 → ⊥) where
-    shaped : IsSignals line done
-    shaped = rw (← all) (line_shaped line first all_right (rw all_many (omega arith)))
+  module _ (starts : same_bytes (take 8 line) start ≡ true) where
+    words_are : split space line ≡ signals_word ∷ words line
+    unfolding count
+    words_are =
+        ap (split space)
+        (sym (take-append-drop 8 line)
+        ∙ ap (λ (xs : List ℕ). xs ++ drop 8 line) (same_bytes_true (take 8 line) start starts))
+        ∙ split_append space signals_word (drop 8 line) refl
 
-  ends_many : most_signals < n → signals_answer (split space line) ≡ signals_refused 7
-  ends_many h = signals_many line done (shaped (λ e. omega arith)) (rw p.many h)
+    answer_words : signals_answer (split space line)
+        ≡ cond (every name_shaped (words line)) (names_read (words line)) (Err 6)
+    unfolding signals_answer
+    answer_words =
+        rw (
+          words_are,
+          same_bytes_refl signals_word,
+          le-leb 1 (length (words line)) (rw (split_length space (drop 8 line)) (omega arith)),
+        )
 
-  module _ (some : n ≡ 0 → ⊥) (few : n ≤ most_signals) where
-    kept_all : names ≡ names_from done
-    kept_all = p.kept ∙ kept_few done (rw p.many few)
+    -- Word k is no name.
+    pub answer_name : (k : ℕ) → k < length (words line) → {word : List ℕ}
+        → word ≡ get_or (words line) k word → name_shaped word ≡ false
+        → signals_answer (split space line) ≡ Err 6
+    answer_name k h {word} e bad = answer_words ∙ go (every name_shaped (words line)) refl
+      where
+        go : (t : Bool) → every name_shaped (words line) ≡ t
+            → cond {A = Result Signals ℕ} t (names_read (words line)) (Err 6) ≡ Err 6
+        go true all =
+            absurd (true≢false (sym (every_at name_shaped (words line) k word all h)
+            ∙ sym (ap name_shaped e) ∙ bad))
+        go false all = refl
 
-    kept_names : take n names ≡ map name_of done
-    kept_names = rw kept_all (take_at (map name_of done) _ n (length-map done name_of ∙ p.many))
+    -- All words are names: they are kept, and counted.
+    module _ (right : every name_shaped (words line) ≡ true) {names : List Name}
+        (kept : names ≡ kept_of (words line)) {n : ℕ} (counted : n ≡ length (words line)) where
+      module _ (few : n ≤ most_signals) where
+        same : names ≡ names_from (words line)
+        same = kept ∙ kept_few (words line) (rw (← counted) few)
 
-    high : length done ≤ most_signals
-    high = rw p.many few
+        taken : take n names ≡ map name_of (words line)
+        taken = rw same (take_at (map name_of (words line)) _ n
+            (length-map (words line) name_of ∙ sym counted))
 
-    ends_twice : all_distinct (take n names) ≡ false
-        → signals_answer (split space line) ≡ signals_refused 8
-    ends_twice e = signals_twice line done (shaped some) high (rw (← kept_names) e)
+      names_judged : names_read (words line) ≡ names_answer names n
+      unfolding names_read
+      names_judged = go (dec_le n most_signals)
+        where
+          go : Dec (n ≤ most_signals) → names_read (words line) ≡ names_answer names n
+          go (yes few) =
+              rw (
+                ← same few,
+                ← taken few,
+                ← counted,
+                le-leb n most_signals few,
+                le-ltb most_signals n few,
+              )
+          go (no many) =
+              rw (← counted, lt-leb n most_signals (omega arith), lt-ltb most_signals n (omega arith))
 
-    ends_accepted : all_distinct (take n names) ≡ true
-        → signals_answer (split space line) ≡ record { number = 0; count = n; names = names }
-    ends_accepted e =
-        signals_read_lem line done (shaped some) high (rw (← kept_names) e)
-        ∙ ap₂ (λ (k : ℕ) (l : List Name). record { number = 0; count = k; names = l }) p.many
-        (sym kept_all)
+      pub answer_names : signals_answer (split space line) ≡ names_answer names n
+      answer_names = answer_words ∙ rw right names_judged
 
-  -- What the names come to.
-  pub ends_answer : signals_answer (split space line) ≡ names_answer names n
-  unfolding names_answer
-  ends_answer = go (ℕ_discrete n 0) (dec_le n most_signals) (all_distinct (take n names)) refl
+-- A turn's number and word, of those that `split` and `enumerate` give.
+pub turn_word : (rest : List ℕ) (i : ℕ) {n : ℕ} {word : List ℕ}
+    → let all = enumerate_from 0 (slice_split (λ x. eqb x space) rest) in
+    (i < length all) × ((n, word) ≡ get_or all i (n, word))
+    → (n ≡ i) × (i < length (split space rest)) × (word ≡ get_or (split space rest) i word)
+turn_word rest i {n} {word} t =
+    let parts = slice_split (λ x. eqb x space) rest in
+    let low : i < length parts = rw length-enumerate_from at t.0 in
+    let here : (n, word) ≡ (0 + i, get_or parts i word) =
+    t.1 ∙ get_or-enumerate_from 0 parts i (n, word) low in
+    let same : parts ≡ split space rest = split_slice space rest in (
+      ap (λ (p : ℕ × List ℕ). p.0) here ∙ zero-add i,
+      rw same at low,
+      rw same at (ap (λ (p : ℕ × List ℕ). p.1) here),
+    )
+
+pub all_words : (rest : List ℕ)
+    → length (enumerate_from 0 (slice_split (λ x. eqb x space) rest)) ≡ length (split space rest)
+all_words rest = length-enumerate_from 0 _ ∙ ap length (split_slice space rest)
+
+pub words_counted : (rest : List ℕ) {n : ℕ} → n ≡ count space rest
+    → n + 1 ≡ length (split space rest)
+words_counted rest e = omega (arith, split_length space rest)
+
+-- What is said of a word.
+module _ (w : List ℕ) where
+  told : (t : Bool) {r : Result Unit ℕ} → name_shaped w ≡ t → r ≡ cond (name_shaped w) (Ok tt) (Err 6)
+      → r ≡ cond t (Ok tt) (Err 6)
+  told t e is = rw e at is
+
+  pub word_right : {r : Result Unit ℕ} → r ≡ cond (name_shaped w) (Ok tt) (Err 6) → r ≡ Ok tt
+      → name_shaped w ≡ true
+  word_right {r} is e = go (name_shaped w) refl
     where
-      go : Dec (n ≡ 0) → Dec (n ≤ most_signals) → (t : Bool) → all_distinct (take n names) ≡ t
-          → signals_answer (split space line) ≡ names_answer names n
-      go (yes none) few t e = rw (eq-eqb n 0 none) (ends_none none)
-      go (no some) (no many) t e =
-          rw (ne_eqb n 0 some, lt-ltb most_signals n (omega arith)) (ends_many (omega arith))
-      go (no some) (yes few) true e =
-          rw (ne_eqb n 0 some, le-ltb most_signals n few, e) (ends_accepted some few e)
-      go (no some) (yes few) false e =
-          rw (ne_eqb n 0 some, le-ltb most_signals n few, e) (ends_twice some few e)
+      go : (t : Bool) → name_shaped w ≡ t → name_shaped w ≡ true
+      go true f = f
+      go false f = let no = told false f is in absurd (let z : ◌≡◌ {A = ℕ} 0 1 = cc in omega arith)
+
+  pub word_wrong : {r : Result Unit ℕ} {m : ℕ} → r ≡ cond (name_shaped w) (Ok tt) (Err 6)
+      → r ≡ Err m → (name_shaped w ≡ false) × (m ≡ 6)
+  word_wrong {r} {m} is e = go (name_shaped w) refl
+    where
+      go : (t : Bool) → name_shaped w ≡ t → (name_shaped w ≡ false) × (m ≡ 6)
+      go true f = let no = told true f is in absurd (let z : ◌≡◌ {A = ℕ} 0 1 = cc in omega arith)
+      go false f = let no = told false f is in (f, cc)
+
+-- A name of zeros is none.
+pub name_zeros : (z : Name) → length z.chars ≡ 8
+    → ((i d : ℕ) → i < 8 → get_or z.chars i d ≡ 0) → z ≡ no_name
+name_zeros z long each =
+    ap (λ (l : List ℕ). record { chars = l })
+    (ext_get_or 0 z.chars (replicate 8 0) long
+    (λ i low. each i 0 (omega arith) ∙ sym (get_or-replicate 8 i 0 0 (omega arith))))
+
+-- The loop over the words: the first k of them are names, and kept.
+pub record Named (ws : List (List ℕ)) (k : ℕ) (names : List Name) : Type 0 where
+  pub right : every name_shaped (take k ws) ≡ true
+  pub kept : names ≡ kept_of (take k ws)
+
+pub named_none : (ws : List (List ℕ)) → Named ws 0 (replicate most_signals no_name)
+unfolding every
+named_none ws = record { right = refl; kept = refl }
+
+pub named_next : (ws : List (List ℕ)) (k : ℕ) (names : List Name) → Named ws k names
+    → k < length ws → {word : List ℕ} → word ≡ get_or ws k word → name_shaped word ≡ true
+    → Named ws (k + 1) (name_added names k (name_of word))
+unfolding every
+named_next ws k names p h {word} e good =
+    let more : take (k + 1) ws ≡ take k ws ++ (word ∷ []) =
+    rw (add-one, take-suc ws k word h, ← e) in
+    let long : length (take k ws) ≡ k = length-take-le k ws (omega arith) in
+    record {
+      right = rw (more, every_append name_shaped (take k ws) (word ∷ []), p.right, good);
+      kept = rw (more, ← kept_added (take k ws) word, long, p.kept);
+    }
+
+pub named_all : (ws : List (List ℕ)) (k : ℕ) (names : List Name) → Named ws k names
+    → k ≡ length ws → (every name_shaped ws ≡ true) × (names ≡ kept_of ws)
+named_all ws k names p e =
+    let all : take k ws ≡ ws = take_all k ws (omega arith) in
+    (rw all at p.right, rw all at p.kept)

@@ -4,15 +4,15 @@ use native.Mathlib.Omega.{arith}
 use mathlib.Core.Bool.{cond}
 use mathlib.Core.List.{List, [], ◌∷◌, ◌++◌, map, append_assoc, append-nil, map-append}
 use mathlib.Core.Path.{◌≡◌, refl, sym, ap, ◌∙◌}
-use borrow.Author.Tests.{lt-ltb, le-ltb, eq-eqb, ne_eqb}
-use lib.Dec.{eqb, ltb}
+use borrow.Author.Tests.{lt-ltb, le-ltb}
+use lib.Dec.{ltb}
 use lib.ListN.{length, get_or, take, drop, set, replicate, length-append, length-map}
 use Rattle.letters.specs.Letter.{width}
 use Rattle.letters.proofs.Filling.{Filled, filled_all}
 use Rattle.table.specs.Limits.{most_rows}
 use Rattle.table.specs.Row.{zero_row}
 use Rattle.table.specs.Valid.{table_from}
-use Rattle.std.specs.Prelude.{Ok}
+use Rattle.std.specs.Prelude.{Result, Ok, Err}
 use Rattle.table.specs.declared.Name.{Name}
 use Rattle.table.specs.declared.Row.{Row}
 use Rattle.text.specs.Lines.{LF}
@@ -23,7 +23,7 @@ use Rattle.header.proofs.SignalLaws.{added_few, length_none}
 use Rattle.rows.specs.declared.RowRead.{RowRead}
 use Rattle.rows.specs.Inner.Row.{row_from, row_answer}
 use Rattle.reader.specs.Reading.{refused_file}
-use Rattle.reader.specs.Inner.File.{Rows, rows_read, fault, after_row, row_of, rows_from}
+use Rattle.reader.specs.Inner.File.{Rows, rows_read, fault, after_row, after_line, row_of, rows_from}
 use Rattle.reader.specs.Inner.File.{rows_reading, rows_answer}
 use Rattle.reader.specs.Inner.Gathering.{gathered}
 use Rattle.reader.proofs.Lines.{lines_next, lines_end}
@@ -109,15 +109,13 @@ module _ (names : List Name) (signals : ℕ) (version : Version) (rest : List �
     abbrev line : List ℕ
     line = front LF (drop at rest)
 
-    abbrev read : RowRead
+    abbrev read : Result RowRead ℕ
     read = row_answer (take signals names) (width signals) version line
 
     -- the line that a turn looks at
     turn : at < length rest → rows_from names signals version n (lines (drop at rest))
-        ≡ cond (ltb n most_rows) (cond (eqb read.number 0)
-        (after_row (row_of read) (rows_from names signals version (n + 1)
-        (lines (drop (at + length line + 1) rest)))) (fault read.number (n + 3)))
-        (fault 9 (n + 3))
+        ≡ cond (ltb n most_rows) (after_line n read (rows_from names signals version (n + 1)
+        (lines (drop (at + length line + 1) rest)))) (fault 9 (n + 3))
     unfolding rows_from
     turn h = ap (rows_from names signals version n) (lines_next rest at h)
 
@@ -125,19 +123,19 @@ module _ (names : List Name) (signals : ℕ) (version : Version) (rest : List �
         → rows_from names signals version 0 (lines rest) ≡ fault 9 (n + 3)
     gathering_ninth h k = g.rows ∙ rw (turn h, le-ltb n most_rows k)
 
-    pub gathering_fault : at < length rest → n < most_rows → (read.number ≡ 0 → ⊥)
-        → rows_from names signals version 0 (lines rest) ≡ fault read.number (n + 3)
-    gathering_fault h k e = g.rows ∙ rw (turn h, lt-ltb n most_rows k, ne_eqb read.number 0 e)
+    pub gathering_fault : at < length rest → n < most_rows → {number : ℕ} → read ≡ Err number
+        → rows_from names signals version 0 (lines rest) ≡ fault number (n + 3)
+    gathering_fault h k e = g.rows ∙ rw (turn h, lt-ltb n most_rows k, e)
 
-    pub gathering_next : at < length rest → n < most_rows → read.number ≡ 0
-        → Gathering (reads ++ (read ∷ [])) (set sets n read.sets) (set bounds n read.bounds)
+    pub gathering_next : at < length rest → n < most_rows → {row : RowRead} → read ≡ Ok row
+        → Gathering (reads ++ (row ∷ [])) (set sets n row.sets) (set bounds n row.bounds)
         (n + 1) (at + length line + 1)
-    gathering_next h k e = record {
+    gathering_next h k {row} e = record {
       rows =
-          g.rows ∙ rw (turn h, lt-ltb n most_rows k, eq-eqb read.number 0 e)
-          (after_snoc (map row_of reads) (row_of read) later
-          ∙ ap (λ (l : List Row). after_rows l later) (sym (map-append row_of reads (read ∷ []))));
-      many = length-append reads (read ∷ []) ∙ omega (arith, g.many);
+          g.rows ∙ rw (turn h, lt-ltb n most_rows k, e)
+          (after_snoc (map row_of reads) (row_of row) later
+          ∙ ap (λ (l : List Row). after_rows l later) (sym (map-append row_of reads (row ∷ []))));
+      many = length-append reads (row ∷ []) ∙ omega (arith, g.many);
       few = omega arith;
       sets_kept = kept (λ (r : RowRead). r.sets) sets g.sets_kept;
       bounds_kept = kept (λ (r : RowRead). r.bounds) bounds g.bounds_kept;
@@ -148,24 +146,15 @@ module _ (names : List Name) (signals : ℕ) (version : Version) (rest : List �
 
         kept : (f : RowRead → List ℕ) (old : List (List ℕ))
             → old ≡ map f reads ++ replicate (most_rows - length reads) no_sets
-            → set old n (f read) ≡ map f (reads ++ (read ∷ [])) ++ replicate
-            (most_rows - length (reads ++ (read ∷ []))) no_sets
+            → set old n (f row) ≡ map f (reads ++ (row ∷ [])) ++ replicate
+            (most_rows - length (reads ++ (row ∷ []))) no_sets
         kept f old o =
-            let longer = length-append reads (read ∷ []) in
+            let longer = length-append reads (row ∷ []) in
             let same = g.many in
-            let free : most_rows - length (reads ++ (read ∷ [])) ≡ most_rows - suc n = omega arith in
+            let free : most_rows - length (reads ++ (row ∷ [])) ≡ most_rows - suc n = omega arith in
             let before : most_rows - length reads ≡ most_rows - n = omega arith in
-            rw (o, before, free, map-append f reads (read ∷ []))
-            (added_few (map f reads) no_sets (f read) n most_rows (length-map reads f ∙ g.many) k)
-
-    pub gathering_step : at < length rest → n < most_rows → (row : RowRead) → row ≡ read
-        → (size : ℕ)
-        → size ≡ length line
-        → row.number ≡ 0
-        → Gathering (reads ++ (row ∷ [])) (set sets n row.sets) (set bounds n row.bounds)
-        (n + 1) (at + size + 1)
-    gathering_step h k row e size l z =
-        rw (e, l) (gathering_next h k (sym (ap (λ (r : RowRead). r.number) e) ∙ z))
+            rw (o, before, free, map-append f reads (row ∷ []))
+            (added_few (map f reads) no_sets (f row) n most_rows (length-map reads f ∙ g.many) k)
 
     -- no line is left
     pub gathering_ends : length rest ≤ at

@@ -18,3 +18,5 @@ pub mod Sizes
 pub mod Allowed
 pub mod PlainRows
 pub mod Witness
+-- Defaults: the derived default of a table.
+pub mod Defaults

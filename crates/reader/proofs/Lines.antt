@@ -16,12 +16,27 @@ use Rattle.text.proofs.Joins.{lines_cons}
 use Rattle.text.proofs.Splits.{front_whole, after_drop}
 use Rattle.text.proofs.Parts.{rest_whole}
 use Rattle.header.proofs.SignalLaws.{length_none}
-use Rattle.header.specs.declared.Signals.{Signals}
-use Rattle.header.specs.declared.VersionRead.{VersionRead}
+use Rattle.std.specs.Prelude.{Result, Ok, Err}
+use Rattle.table.specs.declared.Refusal.{Refusal}
+use Rattle.table.specs.declared.Signals.{Signals}
 use Rattle.reader.specs.Reading.{refused_file}
-use Rattle.reader.specs.Inner.File.{rows_answer, after_signals, body_answer, after_version}
+use Rattle.reader.specs.Inner.File.{on_line, after_signals, body_answer, after_version}
 use Rattle.reader.specs.Inner.File.{file_answer, read_answer}
 use Rattle.header.specs.Inner.Header.{version_answer, signals_answer}
+
+-- What was read of a line, by what `on_line` gives.
+module _ {A : Type 0} (line : ℕ) where
+  pub on_line_ok : (got : Result A ℕ) {r : Result A Refusal} {x : A} → r ≡ on_line line got
+      → r ≡ Ok x → got ≡ Ok x
+  on_line_ok (Ok y) {r} {x} is e = let same : y ≡ x = cc in ap Ok same
+  on_line_ok (Err m) is e = absurd (let z : ◌≡◌ {A = ℕ} 0 1 = cc in omega arith)
+
+  pub on_line_err : (got : Result A ℕ) {r : Result A Refusal} {x : Refusal} → r ≡ on_line line got
+      → r ≡ Err x → (got ≡ Err x.number) × (x.line ≡ line)
+  on_line_err (Ok y) is e = absurd (let z : ◌≡◌ {A = ℕ} 0 1 = cc in omega arith)
+  on_line_err (Err m) {r} {x} is e =
+      let same : record { number = m; line = line } ≡ x = cc in
+      (ap (λ (y : Refusal). Err y.number) same, sym (ap (λ (y : Refusal). y.line) same))
 
 after_none : (xs : List ℕ) → count LF xs ≡ 0 → after LF xs ≡ []
 unfolding count after
@@ -100,20 +115,11 @@ module _ (rest : List ℕ) where
     unfolding body_answer
     body_first h = rw (lines_first rest (omega arith))
 
-    pub body_refused : (length rest ≡ 0 → ⊥) → (got : Signals)
-        → got ≡ signals_answer (split space first) → (got.number ≡ 0 → ⊥)
-        → body_answer version (lines rest) ≡ refused_file got.number 2
-    body_refused h got e other =
-        body_first h ∙ ap (λ (r : Signals). after_signals version r (lines others)) (sym e)
-        ∙ rw (ne_eqb got.number 0 other)
-
-    pub body_rows : (length rest ≡ 0 → ⊥) → (got : Signals)
-        → got ≡ signals_answer (split space first) → got.number ≡ 0
-        → body_answer version (lines rest)
-        ≡ rows_answer got.names got.count version (lines others)
-    body_rows h got e same =
-        body_first h ∙ ap (λ (r : Signals). after_signals version r (lines others)) (sym e)
-        ∙ rw (eq-eqb got.number 0 same)
+    pub body_read : (length rest ≡ 0 → ⊥) → (got : Result Signals ℕ)
+        → got ≡ signals_answer (split space first)
+        → body_answer version (lines rest) ≡ after_signals version got (lines others)
+    body_read h got e =
+        body_first h ∙ ap (λ (r : Result Signals ℕ). after_signals version r (lines others)) (sym e)
 
   file_first : (length rest ≡ 0 → ⊥)
       → file_answer (lines rest) ≡ after_version (version_answer first) (lines others)
@@ -149,8 +155,8 @@ module _ (rest : List ℕ) where
         )
 
     pub file_read : get_or rest (length rest - 1) 0 ≡ LF
-        → (got : VersionRead) → got ≡ version_answer first
+        → (got : Result Version ℕ) → got ≡ version_answer first
         → read_answer rest ≡ after_version got (lines others)
     file_read same got e =
         read_lines same ∙ file_first h
-        ∙ ap (λ (r : VersionRead). after_version r (lines others)) (sym e)
+        ∙ ap (λ (r : Result Version ℕ). after_version r (lines others)) (sym e)

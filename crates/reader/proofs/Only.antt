@@ -1,7 +1,7 @@
 -- An answer that is right is the computed one; and the first bytes of a file that is too long are
 -- enough. Assumes nothing.
 use Prim.Native.Nat.{ℕ, suc, ◌+◌, ◌-◌, ◌<◌, ◌≤◌}
-use borrow.Author.Tests.{ne_eqb, lt-ltb}
+use borrow.Author.Tests.{lt-ltb}
 use native.Mathlib.Decide.{dec_le}
 use native.Mathlib.Omega.{arith}
 use mathlib.Core.List.{List, [], ◌∷◌, ◌++◌, map, append-nil}
@@ -21,7 +21,8 @@ use Rattle.text.proofs.Joins.{lines_ended, ended_last}
 use Rattle.conditions.specs.Condition.{name_of}
 use Rattle.header.specs.Header.{version_line, names_from}
 use Rattle.header.specs.Inner.Header.{signals_answer}
-use Rattle.header.specs.declared.Signals.{Signals}
+use Rattle.std.specs.Prelude.{Result, Ok}
+use Rattle.table.specs.declared.Signals.{Signals}
 use Rattle.header.proofs.Shapes.{header_known, header_other, header_none, header_right}
 use Rattle.header.proofs.Shapes.{signals_many, signals_twice, signals_read_lem, signals_none}
 use Rattle.rows.specs.Inner.Row.{row_answer}
@@ -77,17 +78,17 @@ module _ (file : FileLines) where
 
   module _ (i : ℕ) (h : i < most_rows) (line : List ℕ) (more : List (List ℕ)) where
     rows_next : (read : RowRead)
-        → row_answer (map name_of names) (width (length names)) version line ≡ read
-        → read.number ≡ 0 → rows_at i (line ∷ more) ≡ after_row (row_of read) (rows_at (i + 1) more)
+        → row_answer (map name_of names) (width (length names)) version line ≡ Ok read
+        → rows_at i (line ∷ more) ≡ after_row (row_of read) (rows_at (i + 1) more)
     unfolding rows_from
-    rows_next read e z = rw (lt-ltb i most_rows h, names_taken names, e, z)
+    rows_next read e = rw (lt-ltb i most_rows h, names_taken names, e)
 
     rows_stop : (number : ℕ)
         → Fault file line number → rows_at i (line ∷ more) ≡ fault number (i + 3)
     unfolding rows_from
     rows_stop number f =
         let found = fault_read (map name_of names) (width (length names)) version line number f in
-        rw (lt-ltb i most_rows h, names_taken names, found.0, ne_eqb number 0 found.1)
+        rw (lt-ltb i most_rows h, names_taken names, found)
 
   rows_ninth : (line : List ℕ) (more : List (List ℕ))
       → rows_at most_rows (line ∷ more) ≡ fault 9 (most_rows + 3)
@@ -104,7 +105,7 @@ module _ (file : FileLines) where
   rows_after i rules rows (and {a} {b} {l} {m} r more) h rest =
       let same : i + 1 + length l ≡ i + suc (length l) = omega arith in
       rows_next i (omega arith) a (l ++ rest) _
-      (row_read (map name_of names) (width (length names)) version a b r) refl
+      (row_read (map name_of names) (width (length names)) version a b r)
       ∙ ap (after_row b) (rows_after (i + 1) l m more (omega arith) rest
       ∙ ap (λ (k : ℕ). after_rows m (rows_at k rest)) same)
       ∙ after_more b m (rows_at (i + suc (length l)) rest)
@@ -141,7 +142,7 @@ module _ (bytes : List ℕ) where
   rules_next file b =
       let n = b.has_names in
       signals_next file.version n.line2 file.rules n.lines
-      ∙ ap (λ (r : Signals). after_signals file.version r file.rules)
+      ∙ ap (λ (r : Result Signals ℕ). after_signals file.version r file.rules)
       (signals_read_lem n.line2 file.names n.signals b.few b.differ)
 
   -- The rows of a line that is no row, or the ninth, and of those before it.
@@ -201,14 +202,14 @@ module _ (bytes : List ℕ) where
   read_only r (is6missing version l) = body_read version [] l
   read_only r (is6 version {line} {rest} l h) =
       signals_next version line rest l
-      ∙ ap (λ (r : Signals). after_signals version r rest) (signals_none line h)
+      ∙ ap (λ (r : Result Signals ℕ). after_signals version r rest) (signals_none line h)
   read_only r (is7 {file} n many) =
       signals_next file.version n.line2 file.rules n.lines
-      ∙ ap (λ (r : Signals). after_signals file.version r file.rules)
+      ∙ ap (λ (r : Result Signals ℕ). after_signals file.version r file.rules)
       (signals_many n.line2 file.names n.signals many)
   read_only r (is8 {file} n few twice) =
       signals_next file.version n.line2 file.rules n.lines
-      ∙ ap (λ (r : Signals). after_signals file.version r file.rules)
+      ∙ ap (λ (r : Result Signals ℕ). after_signals file.version r file.rules)
       (signals_twice n.line2 file.names n.signals few twice)
   read_only r (is9 {file} {before} {rows} line rest b same are e) =
       rows_fault file before rows line rest same are (omega arith) 9 (most_rows + 3)

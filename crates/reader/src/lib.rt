@@ -5,18 +5,16 @@
 
 ghost use Rattle.std.specs.Prelude.{◌≡◌, ◌+◌, min, length};
 ghost use Rattle.text.specs.Inner.Cut.{lines};
-ghost use Rattle.reader.specs.Reading.{empty_table, refused_file};
-ghost use Rattle.reader.specs.Inner.File.{rows_answer, body_answer, read_answer};
+ghost use Rattle.reader.specs.Reading.{empty_table};
+ghost use Rattle.reader.specs.Inner.File.{reading, on_line, rows_answer, body_answer, read_answer};
 ghost use Rattle.reader.specs.Inner.Gathering.{gathered};
 
-use header::VersionRead;
-use table::{
-    CONDITIONS, MOST_BYTES, MOST_ROWS, MOST_SIGNALS, NAME_CHARS, Name, Outcome, Refusal, Row, Table,
-};
+use rows::RowRead;
+use table::{CONDITIONS, MOST_BYTES, MOST_ROWS, Outcome, Refusal, Row, Signals, Table};
 use text::{LF, Version};
 
 // What a file is read as. The table of a refused file is empty: everything in it is 0.
-#[derive(Clone, Copy)]
+#[derive(Clone, Copy, Debug, PartialEq, Eq)]
 pub struct Reading {
     pub outcome: Outcome,
     pub table: Table,
@@ -26,27 +24,14 @@ pub struct Reading {
 pub fn empty() -> Table
     ensures { result ≡ empty_table }
 {
-    let name = Name {
-        chars: [0u8; NAME_CHARS],
-    };
-    let row = rows::row_of([0u64; CONDITIONS], [0u8; rows::BOUNDS]);
-    Table {
-        signals: 0,
-        names: [name; MOST_SIGNALS],
-        count: 0,
-        rows: [row; MOST_ROWS],
-    }
+    Table::default()
 }
 
-// A refusal, with an empty table.
-fn refused(number: u8, line: u8) -> Reading
-    ensures { result ≡ refused_file number line }
+// What a line is read as, its number with the line's.
+fn on_line<T>(line: u8, read: Result<T, u8>) -> Result<T, Refusal>
+    ensures { result ≡ on_line line read }
 {
-    let table = empty();
-    Reading {
-        outcome: Err(Refusal { number, line }),
-        table,
-    }
+    read.map_err(|number| Refusal { number, line })
 }
 
 // The rows of a table, of their sets and bounds: all places, used or not.
@@ -56,97 +41,106 @@ fn rows_of(
 ) -> [Row; MOST_ROWS]
     ensures { result ≡ gathered sets bounds }
 {
-    let first = rows::row_of(sets[0], bounds[0]);
-    let mut rows = [first; MOST_ROWS];
-    let mut i: usize = 1;
-    while i < MOST_ROWS {
-        rows[i] = rows::row_of(sets[i], bounds[i]);
-        i += 1;
+    let mut rows = [Row::default(); MOST_ROWS];
+    for (i, row) in rows.iter_mut().enumerate() {
+        *row = rows::row_of(sets[i], bounds[i]);
     }
     rows
 }
 
 // The lines from line 3 on: a row each, in a file of a version.
-fn read_rows(rest: &[u8], names: [Name; MOST_SIGNALS], signals: u8, version: Version) -> Reading
-    ensures { result ≡ rows_answer names signals version (lines rest.now) }
+fn read_rows(rest: &[u8], signals: Signals, version: Version) -> Result<Table, Refusal>
+    ensures { reading result ≡ rows_answer signals.names signals.count version (lines rest.now) }
 {
-    if rest.len() == 0 {
-        return refused(16, 3);
+    if rest.is_empty() {
+        return Err(Refusal {
+            number: 16,
+            line: 3,
+        });
     }
+    // Kept: document 01 (forms) has an array of row arrays while the reader gathers the sets.
     let mut sets = [[0u64; CONDITIONS]; MOST_ROWS];
     let mut bounds = [[0u8; rows::BOUNDS]; MOST_ROWS];
     let mut n: u8 = 0;
     let mut at: usize = 0;
     while at < rest.len() {
-        let i = n as usize;
+        let i = usize::from(n);
         if MOST_ROWS <= i {
-            return refused(9, n + 3);
+            return Err(Refusal {
+                number: 9,
+                line: n + 3,
+            });
         }
         let end = at + text::find(&rest[at..], LF);
-        let read = rows::read_row(&rest[at..end], names, signals, version);
-        if read.number != 0 {
-            return refused(read.number, n + 3);
-        }
-        let row_sets = read.sets;
-        let row_bounds = read.bounds;
+        let read = on_line(n + 3, rows::read_row(&rest[at..end], signals, version))?;
+        let RowRead {
+            sets: row_sets,
+            bounds: row_bounds,
+        } = read;
         sets[i] = row_sets;
         bounds[i] = row_bounds;
         n += 1;
         at = end + 1;
     }
+    let names = signals.names;
     let rows = rows_of(sets, bounds);
-    Reading {
-        outcome: Ok(()),
-        table: Table {
-            signals,
-            names,
-            count: n,
-            rows,
-        },
-    }
+    Ok(Table {
+        signals: signals.count,
+        names,
+        count: n,
+        rows,
+    })
 }
 
 // The place past a line's end, or the end of all.
 fn past(s: &[u8], end: usize) -> usize
     ensures { result ≡ min (end + 1) (length s.now) }
 {
-    if end < s.len() { end + 1 } else { s.len() }
+    end.saturating_add(1).min(s.len())
 }
 
 // The lines from line 2 on, in a file of a version.
-fn read_body(rest: &[u8], version: Version) -> Reading
-    ensures { result ≡ body_answer version (lines rest.now) }
+fn read_body(rest: &[u8], version: Version) -> Result<Table, Refusal>
+    ensures { reading result ≡ body_answer version (lines rest.now) }
 {
-    if rest.len() == 0 {
-        return refused(6, 2);
+    if rest.is_empty() {
+        return Err(Refusal { number: 6, line: 2 });
     }
     let end = text::find(rest, LF);
-    let read = header::read_signals(&rest[..end]);
-    if read.number != 0 {
-        return refused(read.number, 2);
+    let signals = on_line(2, header::read_signals(&rest[..end]))?;
+    read_rows(&rest[past(rest, end)..], signals, version)
+}
+
+// The lines of a file; or number and line.
+fn read_file(bytes: &[u8]) -> Result<Table, Refusal>
+    ensures { reading result ≡ read_answer bytes.now }
+{
+    if bytes.is_empty() {
+        return Err(Refusal { number: 1, line: 0 });
     }
-    let names = read.names;
-    let from = past(rest, end);
-    read_rows(&rest[from..], names, read.count, version)
+    if MOST_BYTES < bytes.len() {
+        return Err(Refusal { number: 2, line: 0 });
+    }
+    if bytes[bytes.len() - 1] != LF {
+        return Err(Refusal { number: 3, line: 0 });
+    }
+    let end = text::find(bytes, LF);
+    let version = on_line(1, header::read_version(&bytes[..end]))?;
+    read_body(&bytes[past(bytes, end)..], version)
 }
 
 // The table that the bytes are; or number and line, and an empty table.
 pub fn read(bytes: &[u8]) -> Reading
     ensures { result ≡ read_answer bytes.now }
 {
-    if bytes.len() == 0 {
-        return refused(1, 0);
-    }
-    if MOST_BYTES < bytes.len() {
-        return refused(2, 0);
-    }
-    if bytes[bytes.len() - 1] != LF {
-        return refused(3, 0);
-    }
-    let end = text::find(bytes, LF);
-    let from = past(bytes, end);
-    match header::read_version(&bytes[..end]) {
-        VersionRead::Known(version) => read_body(&bytes[from..], version),
-        VersionRead::Refused(number) => refused(number, 1),
+    match read_file(bytes) {
+        Ok(table) => Reading {
+            outcome: Ok(()),
+            table,
+        },
+        Err(refusal) => Reading {
+            outcome: Err(refusal),
+            table: empty(),
+        },
     }
 }

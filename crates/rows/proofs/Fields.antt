@@ -1,31 +1,26 @@
 -- Fields as they are described, against the numbers and values that are computed of them, both
 -- ways. Assumes nothing.
 use Prim.Native.Nat.{ℕ, ◌+◌}
-use borrow.Author.Tests.{ne_eqb}
 use native.Mathlib.Omega.{arith}
 use mathlib.Core.Bool.{Bool, true, false}
 use mathlib.Core.List.{List, [], ◌∷◌, map}
 use mathlib.Core.Path.{◌≡◌, refl, ap₂}
 use lib.ListN.{length}
+use Rattle.std.specs.Prelude.{Option, Some, None, Result, Ok, Err}
 use Rattle.table.specs.Inner.Fields.{bound_at}
 use Rattle.table.specs.declared.Name.{Name}
 use Rattle.letters.specs.Lists.{within}
 use Rattle.text.specs.Lines.{count, Free, none as no-piece, and as and-piece}
 use Rattle.text.specs.Inner.Bounds.{bound_of}
-use Rattle.text.specs.declared.Bound.{Bound}
-use Rattle.text.specs.declared.Bound.TheVariants.{Value as Ticks, Wrong}
 use Rattle.text.proofs.Bounds.{bound_of_complete, bound_of_right, bound_of_wrong, bound_of_none}
 use Rattle.text.proofs.Bounds.{decimal_free}
 use Rattle.conditions.specs.Judge.{RightCondition, is_set}
 use Rattle.conditions.specs.Inner.Judge.{judge}
-use Rattle.conditions.specs.declared.Judged.{Judged}
-use Rattle.conditions.specs.declared.Judged.TheVariants.{Letters, Refused as NoCondition}
-use Rattle.conditions.proofs.Judging.{judge_right, right_judge, judge_some}
+use Rattle.conditions.proofs.Judging.{judge_right, right_judge}
 use Rattle.conditions.proofs.Signs.{in_condition, condition_free}
 use Rattle.rows.specs.Row.{FieldKind, a_condition, a_bound, field_kinds, IsField, AreFields}
 use Rattle.rows.specs.Row.{none, and, FirstFault, no_condition, no_bound, later}
-use Rattle.rows.specs.Inner.Row.{field_of, fields_of, number_among}
-use Rattle.rows.specs.declared.Field.TheVariants.{Value}
+use Rattle.rows.specs.Inner.Row.{field_of, fields_of, all_values}
 
 -- The kinds of the fields from field k on are these.
 abbrev is_bound_kind : FieldKind → Bool
@@ -45,14 +40,14 @@ kinds_all =
 module _ (names : List Name) (n : ℕ) where
   -- What a field is, is found.
   field_value : (k : ℕ) (kind : FieldKind) → bound_at k ≡ is_bound_kind kind → (xs : List ℕ) (v : ℕ)
-      → IsField names n kind xs v → field_of names n k xs ≡ Value v
+      → IsField names n kind xs v → field_of names n k xs ≡ Ok v
   unfolding field_of
-  field_value k a_condition e xs v h = rw (e, right_judge names n xs (Letters v) (is_set h))
+  field_value k a_condition e xs v h = rw (e, right_judge names n xs (Ok v) (is_set h))
   field_value k a_bound e xs v h = rw (e, bound_of_complete xs v h)
 
   pub fields_values : {k : ℕ} {kinds : List FieldKind} {fields : List (List ℕ)} {values : List ℕ}
       → KindsFrom k kinds → AreFields names n kinds fields values
-      → fields_of names n k fields ≡ map Value values
+      → fields_of names n k fields ≡ map Ok values
   unfolding fields_of
   fields_values end none = refl
   fields_values (next {k} {kind} e more) (and {xs} {v} h right) =
@@ -61,16 +56,14 @@ module _ (names : List Name) (n : ℕ) where
   -- So is the first number.
   pub fault_found : {k : ℕ} {kinds : List FieldKind} {fields : List (List ℕ)} {number : ℕ}
       → KindsFrom k kinds → FirstFault names n kinds fields number
-      → (number_among (fields_of names n k fields) ≡ number) × (number ≡ 0 → ⊥)
-  unfolding fields_of number_among field_of
+      → all_values (fields_of names n k fields) ≡ Err number
+  unfolding fields_of all_values field_of
   fault_found (end {k}) fault = elim fault [ ]
   fault_found (next e more) (no_condition {xs} {number} h) =
-      let some = judge_some names n xs number (right_judge names n xs (NoCondition number) h) in
-      (rw (e, right_judge names n xs (NoCondition number) h, ne_eqb number 0 some), some)
-  fault_found (next e more) (no_bound {xs} h) = (rw (e, bound_of_none xs h), λ z. omega arith)
+      rw (e, right_judge names n xs (Err number) h)
+  fault_found (next e more) (no_bound {xs} h) = rw (e, bound_of_none xs h)
   fault_found (next {k} {kind} e more) (later {xs} v h fault) =
-      let rest = fault_found more fault in
-      (rw (field_value k kind e xs v h) rest.0, rest.1)
+      rw (field_value k kind e xs v h, fault_found more fault)
 
   -- Fields are right, or there is a first fault.
   pub data FieldsFound (kinds : List FieldKind) (fields : List (List ℕ)) : Type 0 where
@@ -89,15 +82,15 @@ module _ (names : List Name) (n : ℕ) where
       rest kind v h (right values all) = right (v ∷ values) (and {kind = kind} h all)
       rest kind v h (fault number first) = fault number (later {kind = kind} v h first)
 
-      judged : (j : Judged) → RightCondition names n xs j → FieldsFound kinds fields
+      judged : (j : Result ℕ ℕ) → RightCondition names n xs j → FieldsFound kinds fields
           → FieldsFound (a_condition ∷ kinds) (xs ∷ fields)
-      judged (Letters v) (is_set c) others = rest a_condition v c others
-      judged (NoCondition m) h others = fault m (no_condition h)
+      judged (Ok v) (is_set c) others = rest a_condition v c others
+      judged (Err m) h others = fault m (no_condition h)
 
-      bounded : (b : Bound) → bound_of xs ≡ b → FieldsFound kinds fields
+      bounded : (b : Option ℕ) → bound_of xs ≡ b → FieldsFound kinds fields
           → FieldsFound (a_bound ∷ kinds) (xs ∷ fields)
-      bounded (Ticks v) is others = rest a_bound v (bound_of_right xs v is) others
-      bounded Wrong is others = fault 14 (no_bound (bound_of_wrong xs is))
+      bounded (Some v) is others = rest a_bound v (bound_of_right xs v is) others
+      bounded None is others = fault 14 (no_bound (bound_of_wrong xs is))
 
       go : (kind : FieldKind) → FieldsFound kinds fields → FieldsFound (kind ∷ kinds) (xs ∷ fields)
       go a_condition = judged (judge names n xs) (judge_right names n xs)

@@ -1,19 +1,19 @@
 -- A row's line: its fields one by one, the loop that gathers their values, and the row of these.
 -- Assumes nothing.
-use Prim.Native.Nat.{ℕ, zero, suc, ◌+◌, ◌-◌, ◌%◌, ◌≤◌, ◌<◌}
-use borrow.Author.Tests.{eqb-true, eq-eqb, ne_eqb, ltb-true, lt-ltb}
+use Prim.Native.Nat.{ℕ, zero, suc, ◌+◌, ◌-◌, ◌≤◌, ◌<◌}
 use native.Mathlib.Decide.{dec_lt}
 use native.Mathlib.Nat.{add-zero}
 use native.Mathlib.Omega.{arith}
-use mathlib.Core.Bool.{Bool, true, false, cond}
-use mathlib.Core.List.{List, [], ◌∷◌, ◌++◌, map, map-append, append-nil}
+use mathlib.Core.Bool.{true}
+use mathlib.Core.List.{List, [], ◌∷◌, ◌++◌, append-nil}
 use mathlib.Core.Path.{◌≡◌, refl, sym, ap, ◌∙◌}
-use lib.Dec.{eqb, ltb}
-use lib.ListN.{length, get_or, take, drop, set, replicate, length-take, length-drop, length-map}
-use lib.ListN.{drop_of_length-le, take-append-drop, get_or-map}
-use lib.Seq.{take_all, take-add, drop-drop, set_at, append_snoc}
-use Rattle.letters.specs.Lists.{every, same_bytes}
-use Rattle.letters.proofs.Lists.{and_left, and_right, same_bytes_true}
+use lib.ListN.{length, get_or, take, drop, set, replicate, length-take, length-drop}
+use lib.ListN.{drop_of_length-le, take-append-drop}
+use lib.Seq.{drop-drop, set_at, append_snoc}
+use Rattle.std.specs.Prelude.{Option, Some, None, Result, Ok, Err}
+use Rattle.std.proofs.lemmas.List.{length_push}
+use Rattle.letters.specs.Lists.{same_bytes}
+use Rattle.letters.proofs.Lists.{same_bytes_true}
 use Rattle.table.specs.Limits.{most_ticks}
 use Rattle.table.specs.Inner.Fields.{bound_at}
 use Rattle.table.specs.declared.Name.{Name}
@@ -21,69 +21,78 @@ use Rattle.text.specs.Lines.{count, comma}
 use Rattle.text.specs.Words.{rule_word}
 use Rattle.text.specs.Inner.Cut.{split, front}
 use Rattle.text.specs.Inner.Bounds.{bound_of}
-use Rattle.text.specs.declared.Bound.{Bound}
-use Rattle.text.specs.declared.Bound.TheVariants.{Value as Ticks, Wrong}
 use Rattle.text.proofs.Bounds.{bound_of_value_small}
 use Rattle.text.proofs.Splits.{split_cons, split_length, split_front, front_whole, count_after}
 use Rattle.text.proofs.Splits.{after_drop, front_length, front_short}
-use Rattle.conditions.specs.Inner.Judge.{judge}
-use Rattle.conditions.specs.declared.Judged.{Judged}
-use Rattle.conditions.specs.declared.Judged.TheVariants.{Letters, Refused as NoCondition}
-use Rattle.rows.specs.declared.Field.{Field}
-use Rattle.rows.specs.declared.Field.TheVariants.{Value, Refused}
-use Rattle.rows.specs.declared.Values.{Values}
-use Rattle.rows.specs.Inner.Row.{ticks_field, judged_field, field_of, fields_of}
-use Rattle.rows.specs.Inner.Row.{number_among, value_of, sets_from, bounds_from, bounds_ordered}
-use Rattle.rows.specs.Inner.Row.{judged_row, row_refused, row_fields}
-use Rattle.rows.specs.Inner.Gathering.{values_answer}
-use Rattle.conditions.proofs.Judging.{judge_some}
-
--- A field that is turned down has a number.
-ticks_fault : (b : Bound) (m : ℕ) → ticks_field b ≡ Refused m → (m ≡ 0 → ⊥)
-ticks_fault (Ticks n) m e z = let same : ◌≡◌ {A = ℕ} 0 1 = cc in omega arith
-ticks_fault Wrong m e z = let same : m ≡ 14 = cc in omega arith
-
-judged_fault : (j : Judged) (m : ℕ) → judged_field j ≡ Refused m → j ≡ NoCondition m
-judged_fault (Letters v) m e = absurd (let same : ◌≡◌ {A = ℕ} 0 1 = cc in omega arith)
-judged_fault (NoCondition k) m e = cc
-
--- A bound's value is small.
-ticks_small : (b : Bound) → ((t : ℕ) → b ≡ Ticks t → t ≤ most_ticks)
-    → value_of (ticks_field b) ≤ most_ticks
-ticks_small (Ticks t) small = small t refl
-ticks_small Wrong small = omega arith
+use Rattle.rows.specs.Inner.Row.{ticks_field, field_of, fields_of, before, all_values, BoundsFit}
 
 module _ (names : List Name) (n : ℕ) where
-  field_fault : (k : ℕ) (xs : List ℕ) (m : ℕ) → field_of names n k xs ≡ Refused m
-      → (m ≡ 0 → ⊥)
+  -- A bound's value is small.
+  field_small : (k : ℕ) (xs : List ℕ) (v : ℕ) → bound_at k ≡ true → field_of names n k xs ≡ Ok v
+      → v ≤ most_ticks
   unfolding field_of
-  field_fault k xs m = go (bound_at k)
+  field_small k xs v bound e = go (bound_of xs) refl (rw bound at e)
     where
-      go : (t : Bool)
-          → cond t (ticks_field (bound_of xs)) (judged_field (judge names n xs)) ≡ Refused m
-          → (m ≡ 0 → ⊥)
-      go true e = ticks_fault (bound_of xs) m e
-      go false e = judge_some names n xs m (judged_fault (judge names n xs) m e)
+      go : (b : Option ℕ) → bound_of xs ≡ b → ticks_field b ≡ Ok v → v ≤ most_ticks
+      go (Some t) is e = let same : t ≡ v = cc in rw (← same) (bound_of_value_small xs t is)
+      go None is e = absurd (let z : ◌≡◌ {A = ℕ} 0 1 = cc in omega arith)
 
-  field_small : (k : ℕ) (xs : List ℕ) → bound_at k ≡ true
-      → value_of (field_of names n k xs) ≤ most_ticks
-  unfolding field_of
-  field_small k xs bound = rw bound (ticks_small (bound_of xs) (bound_of_value_small xs))
-
-  bounds_small : (pieces : List (List ℕ)) (k i : ℕ) → bound_at (k + i) ≡ true
-      → value_of (get_or (fields_of names n k pieces) i (Value 0)) ≤ most_ticks
-  unfolding fields_of
-  bounds_small [] k i bound = omega arith
-  bounds_small (xs ∷ pieces) k zero bound = field_small k xs (rw add-zero at bound)
-  bounds_small (xs ∷ pieces) k (suc i) bound =
-      let same : k + suc i ≡ k + 1 + i = omega arith in
-      bounds_small pieces (k + 1) i (rw same at bound)
+  values_small : (pieces : List (List ℕ)) (k i : ℕ) (values : List ℕ)
+      → all_values (fields_of names n k pieces) ≡ Ok values → bound_at (k + i) ≡ true
+      → get_or values i 0 ≤ most_ticks
+  unfolding fields_of all_values
+  values_small [] k i values e bound = let none : [] ≡ values = cc in rw (← none) (omega arith)
+  values_small (xs ∷ pieces) k i values e bound =
+      go (field_of names n k xs) refl (all_values (fields_of names n (k + 1) pieces)) refl e i bound
+      (values_small pieces (k + 1))
+    where
+      go : (f : Result ℕ ℕ) → field_of names n k xs ≡ f → (r : Result (List ℕ) ℕ)
+          → all_values (fields_of names n (k + 1) pieces) ≡ r
+          → all_values (field_of names n k xs ∷ fields_of names n (k + 1) pieces) ≡ Ok values
+          → (i : ℕ) → bound_at (k + i) ≡ true
+          → ((j : ℕ) (rest : List ℕ) → all_values (fields_of names n (k + 1) pieces) ≡ Ok rest
+          → bound_at (k + 1 + j) ≡ true → get_or rest j 0 ≤ most_ticks)
+          → get_or values i 0 ≤ most_ticks
+      go (Err m) p r q e i bound ih =
+          let all : Err m ≡ Ok values = rw p at e in
+          absurd (let z : ◌≡◌ {A = ℕ} 0 1 = cc in omega arith)
+      go (Ok v) p (Err m) q e i bound ih =
+          let all : Err m ≡ Ok values = rw (p, q) at e in
+          absurd (let z : ◌≡◌ {A = ℕ} 0 1 = cc in omega arith)
+      go (Ok v) p (Ok rest) q e zero bound ih =
+          let all : Ok (v ∷ rest) ≡ Ok values = rw (p, q) at e in
+          let same : v ∷ rest ≡ values = cc in
+          rw (← same) (field_small k xs v (rw add-zero at bound) p)
+      go (Ok v) p (Ok rest) q e (suc i) bound ih =
+          let all : Ok (v ∷ rest) ≡ Ok values = rw (p, q) at e in
+          let same : v ∷ rest ≡ values = cc in
+          let there : k + suc i ≡ k + 1 + i = omega arith in
+          rw (← same) (ih i rest q (rw there at bound))
 
   fields_length : (pieces : List (List ℕ)) (k : ℕ)
       → length (fields_of names n k pieces) ≡ length pieces
   unfolding fields_of
   fields_length [] k = refl
   fields_length (xs ∷ pieces) k = ap suc (fields_length pieces (k + 1))
+
+-- The values of the bounds fit in a byte.
+pub bounds_fit : (names : List Name) (n : ℕ) (pieces : List (List ℕ)) (values : List ℕ)
+    → all_values (fields_of names n 0 pieces) ≡ Ok values → BoundsFit values
+bounds_fit names n pieces values e =
+    (low 3 refl, low 4 refl, low 5 refl, low 6 refl, low 10 refl, low 11 refl)
+  where
+    low : (i : ℕ) → bound_at (0 + i) ≡ true → get_or values i 0 < 256
+    low i bound = omega (arith, values_small names n pieces 0 i values e bound)
+
+-- Values in front of those that are left.
+abbrev prefixed : List ℕ → Result (List ℕ) ℕ → Result (List ℕ) ℕ
+prefixed vs (Ok rest) = Ok (vs ++ rest)
+prefixed vs (Err m) = Err m
+
+prefixed_more : (vs : List ℕ) (v : ℕ) (r : Result (List ℕ) ℕ)
+    → prefixed vs (before v r) ≡ prefixed (vs ++ (v ∷ [])) r
+prefixed_more vs v (Ok rest) = ap Ok (sym (append_snoc vs v rest))
+prefixed_more vs v (Err m) = refl
 
 -- The first piece is the front.
 split_first : (b : ℕ) (xs : List ℕ) → split b xs ≡ front b xs ∷ drop 1 (split b xs)
@@ -97,7 +106,7 @@ split_first b xs = go (dec_lt 0 (count b xs))
 -- The loop that gathers the values of a line's fields. Its invariant, `Gathered`, stands before
 -- field k, which begins at `at`.
 module _ (names : List Name) (n : ℕ) (line : List ℕ) where
-  abbrev fields : List Field
+  abbrev fields : List (Result ℕ ℕ)
   fields = fields_of names n 0 (split comma (drop 5 line))
 
   pub record Here (at k : ℕ) : Type 0 where
@@ -113,22 +122,29 @@ module _ (names : List Name) (n : ℕ) (line : List ℕ) where
     pub few : k ≤ 12
     -- Where there is a field left to read, it is here.
     pub here : k < 12 → Here at k
-    -- No field before this one has a number.
-    pub clean : number_among fields ≡ number_among (drop k fields)
-    -- What the fields before this one hold stands in the array, and zeros after it.
-    pub stored : values ≡ map value_of (take k fields) ++ replicate (12 - k) 0
+    -- The fields before this one hold these values, which stand in the array, and zeros after them.
+    pub held : List ℕ
+    pub long : length held ≡ k
+    pub clean : all_values fields ≡ prefixed held (all_values (drop k fields))
+    pub stored : values ≡ held ++ replicate (12 - k) 0
 
   pub gathered_none : 5 ≤ length line → count comma (drop 5 line) ≡ 11
       → Gathered (replicate 12 0) 5 0
   gathered_none long commas = record {
     few = omega arith;
     here = λ h. record { within = long; commas = omega arith; rest = refl };
-    clean = refl;
+    held = [];
+    long = refl;
+    clean = whole (all_values fields);
     stored = refl;
   }
+    where
+      whole : (r : Result (List ℕ) ℕ) → r ≡ prefixed [] r
+      whole (Ok rest) = refl
+      whole (Err m) = refl
 
   module _ (at k : ℕ) (here : Here at k) where
-    abbrev field : Field
+    abbrev field : Result ℕ ℕ
     field = field_of names n k (front comma (drop at line))
 
     -- The field is the first of those that are left, and ends within the line.
@@ -159,68 +175,40 @@ module _ (names : List Name) (n : ℕ) (line : List ℕ) where
         }
 
     -- A turn that finds a value.
-    module _ (v : ℕ) (value : field ≡ Value v) where
-      clean_next : number_among (drop k fields) ≡ number_among (drop (k + 1) fields)
-      unfolding number_among
-      clean_next = rw (field_first, value)
-
-      stored_next : k < 12
-          → set (map value_of (take k fields) ++ replicate (12 - k) 0) k v
-          ≡ map value_of (take (k + 1) fields) ++ replicate (12 - (k + 1)) 0
-      stored_next h =
-          let left : 12 - k ≡ suc (12 - (k + 1)) = omega arith in
-          let long = ap length field_first in
-          let size : length (map value_of (take k fields)) ≡ k =
-          rw (length-map, length-take) (omega (arith, length-drop k fields)) in
-          rw (take-add k 1 fields, field_first, value, left, map-append, append_snoc)
-          (set_at (map value_of (take k fields)) 0 (replicate (12 - (k + 1)) 0) v k size)
-
-      pub gathered_next : (values : List ℕ) → k < 12 → Gathered values at k
-          → Gathered (set values k v) (at + length (front comma (drop at line)) + 1) (k + 1)
-      gathered_next values h now = record {
-        few = omega arith;
-        here = here_next;
-        clean = now.clean ∙ clean_next;
-        stored = rw now.stored (stored_next h);
-      }
+    pub gathered_next : {v : ℕ} → field ≡ Ok v → (values : List ℕ) → k < 12 → Gathered values at k
+        → Gathered (set values k v) (at + length (front comma (drop at line)) + 1) (k + 1)
+    unfolding all_values
+    gathered_next {v} value values h now =
+        let left : 12 - k ≡ suc (12 - (k + 1)) = omega arith in
+        record {
+          few = omega arith;
+          here = here_next;
+          held = now.held ++ (v ∷ []);
+          long = length_push now.held v ∙ omega (arith, now.long);
+          clean = now.clean ∙ rw (field_first, value)
+              (prefixed_more now.held v (all_values (drop (k + 1) fields)));
+          stored = rw (now.stored, left)
+              (set_at now.held 0 (replicate (12 - (k + 1)) 0) v k now.long
+              ∙ sym (append_snoc now.held v (replicate (12 - (k + 1)) 0)));
+        }
 
     -- A turn that finds a fault.
-    pub gathered_fault : (m : ℕ) → field ≡ Refused m → (values : List ℕ) → Gathered values at k
-        → values_answer fields ≡ record { number = m; values = replicate 12 0 }
-    unfolding values_answer number_among
-    gathered_fault m fault values now =
-        let some = ne_eqb m 0 (field_fault names n k (front comma (drop at line)) m fault) in
-        rw (now.clean, field_first, fault, some, some)
+    pub gathered_fault : {m : ℕ} → field ≡ Err m → (values : List ℕ) → Gathered values at k
+        → all_values fields ≡ Err m
+    unfolding all_values
+    gathered_fault fault values now = now.clean ∙ rw (field_first, fault)
 
   -- The end.
   pub gathered_all : (values : List ℕ) (at k : ℕ) → count comma (drop 5 line) ≡ 11 → 12 ≤ k
-      → Gathered values at k → values_answer fields ≡ record { number = 0; values = values }
-  unfolding values_answer number_among
+      → Gathered values at k → all_values fields ≡ Ok values
+  unfolding all_values
   gathered_all values at k commas h now =
       let size = fields_length names n (split comma (drop 5 line)) 0
       ∙ split_length comma (drop 5 line) in
       let none : 12 - k ≡ 0 = omega arith in
-      let clean = now.clean ∙ ap number_among (drop_of_length-le fields {i = k} (omega arith)) in
-      let all = rw (take_all k fields (omega arith), none, append-nil) at now.stored in
-      rw (clean, all)
-
--- Bounds below 256, as the code cuts them.
-pub cut_same : (xs : List ℕ) → every (λ b. ltb b 256) xs ≡ true → map (λ b. b % 256) xs ≡ xs
-unfolding every
-cut_same [] h = refl
-cut_same (x ∷ xs) h =
-    let low = ltb-true x 256 (and_left (ltb x 256) (every (λ b. ltb b 256) xs) h) in
-    let same : x % 256 ≡ x = omega arith in
-    rw (same, cut_same xs (and_right (ltb x 256) (every (λ b. ltb b 256) xs) h))
-
--- A row of the values v, of which b are the bounds.
-module _ (v b : List ℕ) (same : b ≡ bounds_from v) where
-  pub row_ordered : bounds_ordered b ≡ true
-      → judged_row v ≡ record { number = 0; sets = sets_from v; bounds = b }
-  row_ordered passes = rw same (rw (rw same at passes))
-
-  pub row_crossed : bounds_ordered b ≡ false → judged_row v ≡ row_refused 15
-  row_crossed fails = rw (rw same at fails)
+      let past : drop k fields ≡ [] = drop_of_length-le fields {i = k} (omega arith) in
+      let all : values ≡ now.held = now.stored ∙ rw (none, append-nil) in
+      now.clean ∙ rw (past, append-nil, all)
 
 -- The commas of a row's line all stand after `rule `.
 module _ (line : List ℕ) (rule : same_bytes (take 5 line) rule_word ≡ true) where
@@ -233,56 +221,3 @@ module _ (line : List ℕ) (rule : same_bytes (take 5 line) rule_word ≡ true) 
   pub rule_commas : count comma (drop 5 line) ≡ count comma line
   unfolding count
   rule_commas = sym (ap (count comma) (sym (take-append-drop 5 line)) ∙ rw rule_take)
-
--- A row, by the number and the values that were gathered.
-module _ (fields : List Field) (values : Values) (read : values ≡ values_answer fields) where
-  number_fault : values.number ≡ number_among fields
-  unfolding values_answer
-  number_fault = rw read (go (eqb (number_among fields) 0) refl)
-    where
-      go : (t : Bool) → eqb (number_among fields) 0 ≡ t
-          → (cond {A = Values} t (record { number = 0; values = map value_of fields })
-          (record { number = number_among fields; values = replicate 12 0 })).number
-          ≡ number_among fields
-      go true e = sym (eqb-true (number_among fields) 0 e)
-      go false e = refl
-
-  pub row_fault : (values.number ≡ 0 → ⊥) → row_fields fields ≡ row_refused values.number
-  unfolding row_fields
-  row_fault some =
-      rw (ne_eqb (number_among fields) 0 (λ none. some (number_fault ∙ none)), number_fault)
-
-  module _ (none : values.number ≡ 0) where
-    clean : eqb (number_among fields) 0 ≡ true
-    clean = eq-eqb (number_among fields) 0 (sym number_fault ∙ none)
-
-    pub values_held : values.values ≡ map value_of fields
-    unfolding values_answer
-    values_held = rw (read, clean)
-
-    pub row_passed : row_fields fields ≡ judged_row values.values
-    unfolding row_fields
-    row_passed = rw (clean, values_held)
-
--- The values of the bounds are below 256.
-module _ (names : List Name) (n : ℕ) (pieces : List (List ℕ)) where
-  abbrev held : List ℕ
-  held = map value_of (fields_of names n 0 pieces)
-
-  bound_low : (i : ℕ) → bound_at (0 + i) ≡ true → ltb (get_or held i 0) 256 ≡ true
-  bound_low i bound =
-      let small = bounds_small names n pieces 0 i bound in
-      lt-ltb (get_or held i 0) 256
-      (rw (get_or-map value_of (fields_of names n 0 pieces) i (Value 0)) (omega arith))
-
-  pub bounds_low : every (λ b. ltb b 256) (bounds_from held) ≡ true
-  unfolding every
-  bounds_low =
-      rw (
-        bound_low 3 refl,
-        bound_low 4 refl,
-        bound_low 5 refl,
-        bound_low 6 refl,
-        bound_low 10 refl,
-        bound_low 11 refl,
-      )

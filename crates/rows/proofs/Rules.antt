@@ -1,7 +1,7 @@
 -- A row's line as it is described, against the number and the row that are computed of it, both
 -- ways. Assumes nothing.
 use Prim.Native.Nat.{ℕ, zero, suc, ◌+◌, ◌≤◌}
-use borrow.Author.Tests.{leb-true, le-leb, eqb-true, ne_eqb}
+use borrow.Author.Tests.{leb-true, le-leb, eqb-true}
 use native.Mathlib.Numerals.{add-one}
 use native.Mathlib.Omega.{arith}
 use mathlib.Core.Bool.{Bool, true, false, ◌&&◌, cond, true≢false}
@@ -23,15 +23,14 @@ use Rattle.text.specs.declared.Version.{Version}
 use Rattle.text.specs.Inner.Cut.{split}
 use Rattle.text.proofs.Splits.{split_length}
 use Rattle.text.proofs.Joins.{split_joined, joined_split, split_free, joined_free}
-use Rattle.conditions.specs.declared.Judged.TheVariants.{Refused as NoCondition}
+use Rattle.std.specs.Prelude.{Result, Ok, Err}
 use Rattle.conditions.proofs.Judging.{judge_number, right_judge}
 use Rattle.rows.specs.Row.{FieldKind, field_kinds, IsRule, row_values, Ordered}
 use Rattle.rows.specs.Row.{AreFields, none, and, HasFields, IsRow, FirstFault, no_condition}
 use Rattle.rows.specs.Row.{no_bound, later, RowFault, misshapen, in_field, crossed}
-use Rattle.rows.specs.Inner.Row.{fields_of, number_among, value_of, sets_from, bounds_from}
-use Rattle.rows.specs.Inner.Row.{row_from, bounds_ordered, row_refused, rule_shaped, row_fields}
+use Rattle.rows.specs.Inner.Row.{fields_of, all_values, sets_from, bounds_from}
+use Rattle.rows.specs.Inner.Row.{row_from, bounds_ordered, rule_shaped, row_fields}
 use Rattle.rows.specs.Inner.Row.{row_answer}
-use Rattle.rows.specs.declared.Field.TheVariants.{Value}
 use Rattle.rows.specs.declared.RowRead.{RowRead}
 use Rattle.rows.proofs.RowLaws.{rule_commas}
 use Rattle.rows.proofs.Fields.{kinds_all, fields_values, fault_found, FieldsFound, right}
@@ -138,15 +137,11 @@ true_ordered row h =
       action = leb-true row.amin row.amax (and_right (t && l) a h);
     }
 
--- Fields that are right have no number, and their values make the row.
-clean : (values : List ℕ) → number_among (map Value values) ≡ 0
-unfolding number_among
-clean [] = refl
-clean (v ∷ values) = clean values
-
-held : (values : List ℕ) → map value_of (map Value values) ≡ values
+-- Fields that are right hold their values, which make the row.
+held : (values : List ℕ) → all_values (map Ok values) ≡ Ok values
+unfolding all_values
 held [] = refl
-held (v ∷ values) = ap (◌∷◌ v) (held values)
+held (v ∷ values) = rw (held values)
 
 module _ (names : List Name) (n : ℕ) where
   fields_length : {kinds : List FieldKind} {fields : List (List ℕ)} {values : List ℕ}
@@ -170,43 +165,40 @@ module _ (names : List Name) (n : ℕ) (version : Version) where
   row_answer_lem : (line : List ℕ) (row : Row) → HasFields names n line row
       → row_answer names n version line
       ≡ cond (bounds_ordered (bounds_of row))
-      (record { number = 0; sets = row.sets; bounds = bounds_of row }) (row_refused 15)
+      (Ok (record { sets = row.sets; bounds = bounds_of row })) (Err 15)
   unfolding row_fields
   row_answer_lem line row h =
       let values = row_values row in
       let same = row_same names n line row h in
       rule_answer line h.fields h.rule names n version
       ∙ ap row_fields (fields_values names n kinds_all h.right)
-      ∙ rw (clean values, held values)
-      (ap (λ (r : Row). cond {A = RowRead} (bounds_ordered (bounds_of r))
-      (record { number = 0; sets = r.sets; bounds = bounds_of r }) (row_refused 15)) same)
+      ∙ rw (held values)
+      (ap (λ (r : Row). cond {A = Result RowRead ℕ} (bounds_ordered (bounds_of r))
+      (Ok (record { sets = r.sets; bounds = bounds_of r })) (Err 15)) same)
 
   pub row_read : (line : List ℕ) (row : Row) → IsRow names n version line row
       → row_answer names n version line
-      ≡ record { number = 0; sets = row.sets; bounds = bounds_of row }
+      ≡ Ok (record { sets = row.sets; bounds = bounds_of row })
   row_read line row r = row_answer_lem line row r.has ∙ rw (ordered_true row r.ordered)
 
   pub fault_read : (line : List ℕ) (number : ℕ) → RowFault names n version line number
-      → (row_answer names n version line ≡ row_refused number) × (number ≡ 0 → ⊥)
+      → row_answer names n version line ≡ Err number
   unfolding row_answer row_fields
-  fault_read line number (misshapen h) = (go (rule_shaped line) refl, λ z. omega arith)
+  fault_read line number (misshapen h) = go (rule_shaped line) refl
     where
-      go : (t : Bool) → rule_shaped line ≡ t → cond t (row_fields (fields_of names n 0
-          (split comma (drop 5 line)))) (row_refused 10) ≡ row_refused 10
+      go : (t : Bool) → rule_shaped line ≡ t
+          → cond {A = Result RowRead ℕ} t (row_fields (fields_of names n 0 (split comma (drop 5 line)))) (Err 10)
+          ≡ Err 10
       go true e = absurd (h _ (shaped_rule line e))
       go false e = refl
   fault_read line number (in_field {fields} rule first) =
-      let found = fault_found names n kinds_all first in (
-        rule_answer line fields rule names n version
-            ∙ rw (found.0, ne_eqb number 0 found.1),
-        found.1,
-      )
+      rule_answer line fields rule names n version ∙ rw (fault_found names n kinds_all first)
   fault_read line number (crossed {row} h other) =
-      (row_answer_lem line row h ∙ go (bounds_ordered (bounds_of row)) refl, λ z. omega arith)
+      row_answer_lem line row h ∙ go (bounds_ordered (bounds_of row)) refl
     where
       go : (t : Bool) → bounds_ordered (bounds_of row) ≡ t
-          → cond {A = RowRead} t (record { number = 0; sets = row.sets; bounds = bounds_of row })
-          (row_refused 15) ≡ row_refused 15
+          → cond {A = Result RowRead ℕ} t (Ok (record { sets = row.sets; bounds = bounds_of row }))
+          (Err 15) ≡ Err 15
       go true e = absurd (other (true_ordered row e))
       go false e = refl
 
@@ -253,7 +245,7 @@ module _ (names : List Name) (n : ℕ) where
   first_among : {kinds : List FieldKind} {fields : List (List ℕ)} {number : ℕ}
       → FirstFault names n kinds fields number → (11 ≤ number) × (number ≤ 14)
   first_among (no_condition {xs} {number} h) =
-      among (judge_number names n xs number (right_judge names n xs (NoCondition number) h))
+      among (judge_number names n xs number (right_judge names n xs (Err number) h))
     where
       among : (number ≡ 11) ⊎ ((number ≡ 12) ⊎ (number ≡ 13)) → (11 ≤ number) × (number ≤ 14)
       among (inl e) = (omega arith, omega arith)

@@ -1,3 +1,2 @@
 -- What need not be believed: it only follows the code, or is tied by theorems to what is.
 pub mod Row
-pub mod Gathering

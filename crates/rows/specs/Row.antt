@@ -1,5 +1,5 @@
 -- One row's line, and what is wrong with another line: numbers 10 to 15.
-use Rattle.std.specs.Prelude.{ℕ, ◌≤◌, List, [], ◌∷◌, ◌++◌, ◌≡◌, length, take, drop}
+use Rattle.std.specs.Prelude.{ℕ, ◌≤◌, List, [], ◌∷◌, ◌++◌, ◌≡◌, Err, length, take, drop}
 use Rattle.table.specs.declared.Name.{Name}
 use Rattle.table.specs.declared.Row.{Row}
 use Rattle.text.specs.Bounds.{IsBound}
@@ -7,7 +7,6 @@ use Rattle.text.specs.Lines.{comma, joined, Free}
 use Rattle.text.specs.Words.{rule_word}
 use Rattle.text.specs.declared.Version.{Version}
 use Rattle.conditions.specs.Judge.{IsCondition, RightCondition}
-use Rattle.conditions.specs.declared.Judged.TheVariants.{Refused}
 
 -- "Every further line is `rule `, then twelve fields with eleven commas between them: TSE, TC, TEE,
 -- Tmin, Tmax, Lmin, Lmax, ASE, AC, AEE, Amin, Amax." A field is a condition, or a bound.
@@ -63,7 +62,7 @@ module _ (names : List Name) (letters : ℕ) where
   -- first field that is not right.
   pub data FirstFault : List FieldKind → List (List ℕ) → ℕ → Type 0 where
     no_condition : {xs : List ℕ} {number : ℕ} {kinds : List FieldKind} {fields : List (List ℕ)}
-        → RightCondition names letters xs (Refused number)
+        → RightCondition names letters xs (Err number)
         → FirstFault (a_condition ∷ kinds) (xs ∷ fields) number
     no_bound : {xs : List ℕ} {kinds : List FieldKind} {fields : List (List ℕ)}
         → ((n : ℕ) → IsBound xs n → ⊥) → FirstFault (a_bound ∷ kinds) (xs ∷ fields) 14

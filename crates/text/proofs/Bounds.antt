@@ -6,17 +6,16 @@ use native.Mathlib.Decide.{dec_lt}
 use native.Mathlib.Omega.{arith}
 use mathlib.Core.Bool.{Bool, true, false, ◌&&◌, cond}
 use mathlib.Core.List.{List, [], ◌∷◌, ◌++◌}
+use Rattle.std.specs.Prelude.{Option, Some, None}
 use mathlib.Core.Path.{◌≡◌, refl, ◌∙◌}
 use lib.Dec.{leb, ltb}
 use lib.ListN.{length, get_or}
 use Rattle.letters.specs.Lists.{within, every}
-use Rattle.letters.proofs.Lists.{and_left, and_right, every_append}
+use Rattle.letters.proofs.Lists.{and_left, and_right, every_append, within_true, within_bounds}
 use Rattle.table.specs.Limits.{most_ticks}
 use Rattle.text.specs.Bounds.{digits, decimal, IsBound}
 use Rattle.text.specs.Inner.Bounds.{one_digit, two_digits, bound_of}
 use Rattle.text.specs.Lines.{count}
-use Rattle.text.specs.declared.Bound.{Bound}
-use Rattle.text.specs.declared.Bound.TheVariants.{Value, Wrong}
 use Rattle.text.proofs.Decimals.{decimal_few, decimal_more}
 use Rattle.text.proofs.Joins.{passing_free}
 
@@ -24,15 +23,12 @@ use Rattle.text.proofs.Joins.{passing_free}
 decimal_two : (n : ℕ) → 10 ≤ n → n < 100 → decimal n ≡ (48 + n / 10) ∷ (48 + n % 10) ∷ []
 decimal_two n h g = decimal_more n h ∙ rw (decimal_few (n / 10) (omega arith))
 
-pub within_true : (a b x : ℕ) → a ≤ x → x ≤ b → within a b x ≡ true
-within_true a b x h g = rw (le-leb a x h, le-leb x b g)
-
 -- Each bound is found.
-pub bound_of_complete : (xs : List ℕ) (n : ℕ) → IsBound xs n → bound_of xs ≡ Value n
+pub bound_of_complete : (xs : List ℕ) (n : ℕ) → IsBound xs n → bound_of xs ≡ Some n
 unfolding bound_of
 bound_of_complete xs n h = go (dec_lt n 10)
   where
-    go : Dec (n < 10) → bound_of xs ≡ Value n
+    go : Dec (n < 10) → bound_of xs ≡ Some n
     go (yes few) =
         let value : 48 + n - 48 ≡ n = omega arith in
         rw (
@@ -54,29 +50,25 @@ bound_of_complete xs n h = go (dec_lt n 10)
           le-leb n most_ticks h.small,
         )
 
-pub bound_of_wrong : (xs : List ℕ) → bound_of xs ≡ Wrong → (n : ℕ) → IsBound xs n → ⊥
+pub bound_of_wrong : (xs : List ℕ) → bound_of xs ≡ None → (n : ℕ) → IsBound xs n → ⊥
 bound_of_wrong xs e n h =
     let found = bound_of_complete xs n h in
     let z : ◌≡◌ {A = ℕ} 0 1 = cc in
     omega arith
 
 -- What is found is a bound.
-cond_value : (t : Bool) (v n : ℕ) → cond t (Value v) Wrong ≡ Value n → (t ≡ true) × (v ≡ n)
+cond_value : (t : Bool) (v n : ℕ) → cond t (Some v) None ≡ Some n → (t ≡ true) × (v ≡ n)
 cond_value true v n e = (refl, cc)
 cond_value false v n e = absurd (let z : ◌≡◌ {A = ℕ} 0 1 = cc in omega arith)
 
-within_bounds : (a b x : ℕ) → within a b x ≡ true → (a ≤ x) × (x ≤ b)
-within_bounds a b x h =
-    (leb-true a x (and_left (leb a x) (leb x b) h), leb-true x b (and_right (leb a x) (leb x b) h))
-
-one_digit_right : (a n : ℕ) → one_digit a ≡ Value n → IsBound (a ∷ []) n
+one_digit_right : (a n : ℕ) → one_digit a ≡ Some n → IsBound (a ∷ []) n
 one_digit_right a n e =
     let told = cond_value (within 48 57 a) (a - 48) n e in
     let digit = within_bounds 48 57 a told.0 in
     let same : 48 + n ≡ a = omega arith in
     record { small = omega arith; bytes = decimal_few n (omega arith) ∙ rw same }
 
-two_digits_right : (a b n : ℕ) → two_digits a b ≡ Value n → IsBound (a ∷ b ∷ []) n
+two_digits_right : (a b n : ℕ) → two_digits a b ≡ Some n → IsBound (a ∷ b ∷ []) n
 two_digits_right a b n e =
     let v = 10 * (a - 48) + (b - 48) in
     let told = cond_value (within 49 57 a && within 48 57 b && leb v most_ticks) v n e in
@@ -92,21 +84,21 @@ two_digits_right a b n e =
       bytes = decimal_two n (omega arith) (omega arith) ∙ rw (same, same-too);
     }
 
-pub bound_of_right : (xs : List ℕ) (n : ℕ) → bound_of xs ≡ Value n → IsBound xs n
+pub bound_of_right : (xs : List ℕ) (n : ℕ) → bound_of xs ≡ Some n → IsBound xs n
 unfolding bound_of
 bound_of_right [] n e = absurd (let z : ◌≡◌ {A = ℕ} 0 1 = cc in omega arith)
 bound_of_right (a ∷ []) n e = one_digit_right a n e
 bound_of_right (a ∷ b ∷ []) n e = two_digits_right a b n e
 bound_of_right (a ∷ b ∷ c ∷ xs) n e = absurd (let z : ◌≡◌ {A = ℕ} 0 1 = cc in omega arith)
 
-pub bound_of_none : (xs : List ℕ) → ((n : ℕ) → IsBound xs n → ⊥) → bound_of xs ≡ Wrong
+pub bound_of_none : (xs : List ℕ) → ((n : ℕ) → IsBound xs n → ⊥) → bound_of xs ≡ None
 bound_of_none xs h = go (bound_of xs) refl
   where
-    go : (b : Bound) → bound_of xs ≡ b → b ≡ Wrong
-    go (Value n) e = absurd (h n (bound_of_right xs n e))
-    go Wrong e = refl
+    go : (b : Option ℕ) → bound_of xs ≡ b → b ≡ None
+    go (Some n) e = absurd (h n (bound_of_right xs n e))
+    go None e = refl
 
-pub bound_of_value_small : (xs : List ℕ) (n : ℕ) → bound_of xs ≡ Value n → n ≤ most_ticks
+pub bound_of_value_small : (xs : List ℕ) (n : ℕ) → bound_of xs ≡ Some n → n ≤ most_ticks
 bound_of_value_small xs n e = (bound_of_right xs n e).small
 
 -- `bound_of` by how many bytes there are.
@@ -126,7 +118,7 @@ bound_of_two (a ∷ b ∷ []) h = refl
 bound_of_two (a ∷ b ∷ c ∷ xs) h = absurd (omega arith)
 
 pub bound_of_other : (xs : List ℕ) → (length xs ≡ 1 → ⊥) → (length xs ≡ 2 → ⊥)
-    → bound_of xs ≡ Wrong
+    → bound_of xs ≡ None
 unfolding bound_of
 bound_of_other [] h g = refl
 bound_of_other (a ∷ []) h g = absurd (h refl)

@@ -1,4 +1,4 @@
--- Splits: `split`, `front`, `after` and `count`, and the turns of the loops over a byte.
+-- Splits: `split`, `front`, `after` and `count`, of each other and in the library's words.
 pub mod Splits
 -- Parts: parts of a slice, as the logic has them, and as the definitions do.
 pub mod Parts

@@ -1,27 +1,50 @@
 -- Bytes cut at a byte: what `split`, `front`, `after` and `count` say of each other.
 -- Assumes nothing.
 use Prim.Native.Nat.{ℕ, suc, ◌+◌, ◌<◌, ◌≤◌}
-use borrow.Author.Tests.{eqb-true, eq-eqb, ne_eqb}
-use native.Mathlib.Numerals.{add-one}
+use borrow.Author.Tests.{eqb-true, eq-eqb, ltb-false}
 use native.Mathlib.Omega.{arith}
-use mathlib.Core.Bool.{Bool, true, false}
+use mathlib.Core.Bool.{Bool, true, false, not}
+use Rattle.std.proofs.lemmas.List.Sums.{prefix_len-le-length}
 use mathlib.Core.List.{List, [], ◌∷◌, ◌++◌}
-use mathlib.Core.Logic.{◌⊎◌, inl, inr, ⊎_elim}
+use mathlib.Core.Logic.{⊎_elim}
+use Rattle.std.proofs.lemmas.Bool.{cases_Bool}
 use mathlib.Core.Path.{◌≡◌, refl, sym, ap, ◌∙◌}
-use lib.Dec.{eqb}
-use lib.ListN.{length, get_or, take, drop, length-append, length-take, drop_of_length-le}
-use lib.Seq.{drop-cons, drop-append-add}
+use lib.Dec.{eqb, ltb}
+use lib.ListN.{length, take, drop, length-append, length-take}
+use lib.Seq.{drop-append-add}
+use Rattle.std.specs.Prelude.{Some, None, unwrap_or, cond}
+use Rattle.std.specs.List.{position, position_or_len, count_by, slice_split, onto_first}
+use Rattle.std.proofs.lemmas.List.Recursion.{is_count_by}
 use Rattle.text.specs.Lines.{count}
 use Rattle.text.specs.Inner.Cut.{longer, split, front, after}
-
--- A byte is b, or it is another.
-either : (t : Bool) → (t ≡ true) ⊎ (t ≡ false)
-either true = inl refl
-either false = inr refl
 
 longer_length : (x : ℕ) (pieces : List (List ℕ)) → length (longer x pieces) ≡ length pieces
 longer_length x [] = refl
 longer_length x (piece ∷ pieces) = refl
+
+split_some : (b : ℕ) (xs : List ℕ) → 1 ≤ length (split b xs)
+unfolding split
+split_some b [] = omega arith
+split_some b (x ∷ xs) = go (eqb x b) (split_some b xs)
+  where
+    go : (t : Bool) → 1 ≤ length (split b xs)
+        → 1 ≤ length (cond t ([] ∷ split b xs) (longer x (split b xs)))
+    go true some = omega arith
+    go false some = rw longer_length some
+
+-- The pieces are those of the library's `split`.
+pub split_slice : (b : ℕ) (xs : List ℕ) → slice_split (λ x. eqb x b) xs ≡ split b xs
+unfolding split
+split_slice b [] = refl
+split_slice b (x ∷ xs) = go (eqb x b) (split b xs) (split_some b xs) (split_slice b xs)
+  where
+    go : (t : Bool) (pieces : List (List ℕ)) → 1 ≤ length pieces
+        → slice_split (λ y. eqb y b) xs ≡ pieces
+        → cond t ([] ∷ slice_split (λ y. eqb y b) xs) (onto_first x (slice_split (λ y. eqb y b) xs))
+        ≡ cond t ([] ∷ pieces) (longer x pieces)
+    go t [] some e = absurd (omega arith)
+    go true (piece ∷ more) some e = rw e
+    go false (piece ∷ more) some e = rw e
 
 module _ (b : ℕ) where
   pub count_append : (xs ys : List ℕ) → count b (xs ++ ys) ≡ count b xs + count b ys
@@ -29,7 +52,14 @@ module _ (b : ℕ) where
   count_append [] ys = omega arith
   count_append (x ∷ xs) ys =
       let rest = count_append xs ys in
-      ⊎_elim (λ e. rw e (omega arith)) (λ e. rw e (omega arith)) (either (eqb x b))
+      ⊎_elim (λ e. rw e (omega arith)) (λ e. rw e (omega arith)) (cases_Bool (eqb x b))
+
+  pub count_le : (xs : List ℕ) → count b xs ≤ length xs
+  unfolding count
+  count_le [] = omega arith
+  count_le (x ∷ xs) =
+      let rest = count_le xs in
+      ⊎_elim (λ e. rw e (omega arith)) (λ e. rw e (omega arith)) (cases_Bool (eqb x b))
 
   pub split_length : (xs : List ℕ) → length (split b xs) ≡ suc (count b xs)
   unfolding split count
@@ -38,20 +68,20 @@ module _ (b : ℕ) where
       ⊎_elim
       (λ e. rw e (ap suc (split_length xs)))
       (λ e. rw e (longer_length x (split b xs) ∙ split_length xs))
-      (either (eqb x b))
+      (cases_Bool (eqb x b))
 
   -- The front is what the bytes begin with, and b is not in it.
   pub count_front : (xs : List ℕ) → count b (front b xs) ≡ 0
   unfolding front count
   count_front [] = refl
   count_front (x ∷ xs) =
-      ⊎_elim (λ e. rw e) (λ e. rw e (rw e (count_front xs))) (either (eqb x b))
+      ⊎_elim (λ e. rw e) (λ e. rw e (rw e (count_front xs))) (cases_Bool (eqb x b))
 
   pub front_take : (xs : List ℕ) → front b xs ≡ take (length (front b xs)) xs
   unfolding front
   front_take [] = refl
   front_take (x ∷ xs) =
-      ⊎_elim (λ e. rw e) (λ e. rw e (ap (◌∷◌ x) (front_take xs))) (either (eqb x b))
+      ⊎_elim (λ e. rw e) (λ e. rw e (ap (◌∷◌ x) (front_take xs))) (cases_Bool (eqb x b))
 
   pub front_length : (xs : List ℕ) → length (front b xs) ≤ length xs
   front_length xs = omega (arith, rw length-take at (ap length (front_take xs)))
@@ -61,7 +91,7 @@ module _ (b : ℕ) where
       → (eqb x b ≡ false) × (count b xs ≡ 0)
   unfolding count
   count_none x xs h =
-      ⊎_elim (λ e. absurd (omega (arith, rw e at h))) (λ e. (e, rw e at h)) (either (eqb x b))
+      ⊎_elim (λ e. absurd (omega (arith, rw e at h))) (λ e. (e, rw e at h)) (cases_Bool (eqb x b))
 
   pub front_whole : (xs : List ℕ) → count b xs ≡ 0 → front b xs ≡ xs
   unfolding front
@@ -108,7 +138,7 @@ module _ (b : ℕ) where
       ⊎_elim
       (λ e. rw e (rw (eqb-true x b e)))
       (λ e. rw (e, front_after xs (rw e at h)))
-      (either (eqb x b))
+      (cases_Bool (eqb x b))
 
   module _ (xs : List ℕ) (h : 0 < count b xs) where
     pub split_cons : split b xs ≡ front b xs ∷ split b (after b xs)
@@ -131,32 +161,29 @@ module _ (b : ℕ) where
     pub front_short : length (front b xs) < length xs
     front_short = omega (arith, simp length-append at (ap length (front_after xs h)))
 
--- A loop's turn at place i: `-next` at another byte, `-stop` and `-more` at b, `-end` past the last
--- place.
-module _ (b : ℕ) (s : List ℕ) (i : ℕ) where
-  pub front_next : i < length s → (get_or s i 0 ≡ b → ⊥)
-      → length (front b (drop i s)) ≡ length (front b (drop (i + 1) s)) + 1
-  unfolding front
-  front_next h e = rw (drop-cons s i 0 h, ne_eqb _ _ e, add-one i, add-one)
+-- The place of the first element that passes, or how many there are.
+pub position_unwrapped : {X : Type 0} (p : X → Bool) (xs : List X)
+    → unwrap_or (position p xs) (length xs) ≡ position_or_len p xs
+position_unwrapped p xs = go (ltb (position_or_len p xs) (length xs)) refl
+  where
+    go : (t : Bool) → ltb (position_or_len p xs) (length xs) ≡ t
+        → unwrap_or (cond t (Some (position_or_len p xs)) None) (length xs) ≡ position_or_len p xs
+    go true e = refl
+    go false e =
+        let past = ltb-false (position_or_len p xs) (length xs) e in
+        omega (arith, prefix_len-le-length (λ x. not (p x)) xs)
 
-  pub front_stop : i < length s → get_or s i 0 ≡ b → length (front b (drop i s)) ≡ 0
-  unfolding front
-  front_stop h e = rw (drop-cons s i 0 h, eq-eqb _ _ e)
+-- The front is as long as the library's search for b says, and `count` is its count.
+pub front_position : (b : ℕ) (xs : List ℕ)
+    → length (front b xs) ≡ position_or_len (λ x. eqb x b) xs
+unfolding front
+front_position b [] = refl
+front_position b (x ∷ xs) =
+    let rest = front_position b xs in
+    ⊎_elim (λ e. rw e) (λ e. rw e (omega arith)) (cases_Bool (eqb x b))
 
-  pub front_end : length s ≤ i → length (front b (drop i s)) ≡ 0
-  unfolding front
-  front_end h = rw (drop_of_length-le s h)
-
-  pub count_next : i < length s → (get_or s i 0 ≡ b → ⊥)
-      → count b (drop i s) ≡ count b (drop (i + 1) s)
-  unfolding count
-  count_next h e = rw (drop-cons s i 0 h, ne_eqb _ _ e, add-one)
-
-  pub count_more : i < length s → get_or s i 0 ≡ b
-      → count b (drop i s) ≡ count b (drop (i + 1) s) + 1
-  unfolding count
-  count_more h e = rw (drop-cons s i 0 h, eq-eqb _ _ e, add-one i, add-one)
-
-  pub count_end : length s ≤ i → count b (drop i s) ≡ 0
-  unfolding count
-  count_end h = rw (drop_of_length-le s h)
+pub count_by_byte : (b : ℕ) (xs : List ℕ) → count b xs ≡ count_by (λ x. eqb x b) xs
+unfolding count
+count_by_byte b =
+    is_count_by (count b) (λ x. eqb x b) refl
+    (λ x xs. ⊎_elim (λ e. rw e (omega arith)) (λ e. rw e) (cases_Bool (eqb x b)))

@@ -1,114 +1,82 @@
 -- `header::read_signals` meets its contract. Assumes nothing.
-use Prim.Native.Nat.{ℕ, ◌≤◌, ◌-◌, ◌+◌}
-use borrow.Author.Rules.{rules}
+use Rattle.std.proofs.Common.{eqb, rules, tests}
 use native.Mathlib.Omega.{arith}
-use mathlib.Core.Bool.{true}
-use mathlib.Core.List.{[], ◌∷◌, ◌++◌, List}
-use mathlib.Core.Path.{◌≡◌, sym, ap, ◌∙◌}
-use lib.ListN.{take, drop, length-drop, length}
-use lib.Seq.{take_all}
+use mathlib.Core.Path.{sym, ◌∙◌}
+use Rattle.std.proofs.lemmas.Iterator.Consumers.{YieldsList-turn, YieldsList-end, YieldsList-from_enumerate}
+use Rattle.std.proofs.lemmas.Iterator.Splits.{YieldsList-from_slice_split}
+use Rattle.std.proofs.lemmas.Result.{err_from_is_err_and}
 use Rattle.letters.specs.Lists.{same_bytes}
-use Rattle.letters.proofs.Lists.{same_bytes_true, same_bytes_false}
-use Rattle.text.specs.Inner.Cut.{front}
+use lib.Seq.{take_all}
+use Rattle.std.proofs.lemmas.List.{length_push}
 use Rattle.text.specs.Lines.{space}
-use Rattle.text.specs.Words.{signals_word}
-use Rattle.text.proofs.Parts.{rest_whole, part_front}
-use Rattle.text.proofs.Splits.{front_length, front_take}
-use Rattle.conditions.specs.Condition.{name_of}
-use Rattle.header.specs.Inner.Gathering.{name_added}
-use Rattle.header.specs.Inner.Header.{name_shaped}
+use Rattle.text.proofs.Parts.{none_refused, some_kept}
+use Rattle.text.proofs.Splits.{count_le}
 use Rattle.header.proofs.Shapes.{shaped_name}
-use Rattle.header.proofs.SignalLaws.{ends_answer, naming_starts, naming_stops, naming_next}
-use Rattle.header.proofs.SignalLaws.{answer_word, answer_name}
+use Rattle.header.proofs.SignalLaws.{answer_start, answer_name, answer_names}
+use Rattle.header.proofs.SignalLaws.{name_zeros, named_none, named_next, named_all, turn_word, all_words, words_counted, word_right, word_wrong}
 use Rattle.header.proofs.read_signals.Goals as goal
 
--- Past the first two tests the first word is `signals`.
-first_is : (line : List ℕ) {n : ℕ} → n ≡ length (front space line) → n ≡ 7
-    → same_bytes (take 7 line) signals_word ≡ true → front space line ≡ signals_word
-first_is line found seven same =
-    front_take space line ∙ ap (λ (k : ℕ). take k line) (sym found ∙ seven)
-    ∙ same_bytes_true (take 7 line) signals_word same
+pub returns-in_err-rest : goal.returns-in_err-rest
+unfolding same_bytes
+returns-in_err-rest c =
+    let none = none_refused _ _ _ c.strip_prefix.result c.strip_prefix.ensures.cases
+    c.ok_or.ensures.value c.in_err-rest.was in
+    let given = err_from_is_err_and c.from_residual.result c.from_residual.ensures.1 in
+    rw (given.1, given.2, none.1) (sym (answer_start _ none.0))
 
--- The word that a turn looks at: it begins at a place, and its length was found.
-module _ (line : List ℕ) (from : ℕ) {n : ℕ}
-    (found : n ≡ length (front space (take (length line - from) (drop from line)))) where
-  abbrev word : List ℕ
-  word = front space (drop from line)
+pub loop-n-init : goal.loop-n-init
+loop-n-init c =
+    let none = name_zeros c.default-names.result c.default-names.ensures.long c.default-names.ensures.at in
+    rw none (named_none _)
 
-  found_word : n ≡ length word
-  found_word = found ∙ ap (λ (l : List ℕ). length (front space l)) (rest_whole line from)
+pub returns-in_err-keep_name : goal.returns-in_err-keep_name
+unfolding same_bytes
+returns-in_err-keep_name c =
+    let begins = some_kept _ _ _ c.strip_prefix.result c.strip_prefix.ensures.cases
+    c.ok_or.ensures.value c.in_ok-rest.was in
+    let rest = c.in_ok-rest.rest.now in
+    let all = YieldsList-from_enumerate
+    (YieldsList-from_slice_split _ (λ x. eqb x 32) rest (cc) (cc) (cc)
+    (λ x b q k. search (rules, tests))) (cc) in
+    let turn = turn_word rest _ (YieldsList-turn all c.loop-n.yielded _ c.loop-n.yielded_by _ _ _
+    c.in-Some.is c.next.ensures.steps) in
+    let wrong = word_wrong _ c.keep_name.ensures.told c.in_err-keep_name.was in
+    let given = err_from_is_err_and c.from_residual-in_err-keep_name.result
+    c.from_residual-in_err-keep_name.ensures.1 in
+    rw (given.1, given.2, wrong.1)
+    (sym (answer_name _ begins.0 _ (rw begins.1 at turn.1) (rw begins.1 at turn.2) wrong.0))
 
-  fits : from ≤ length line → from + n ≤ length line
-  fits within =
-      omega (arith, found_word, front_length space (drop from line), length-drop from line)
+pub loop-n-preserved : goal.loop-n-preserved
+loop-n-preserved c =
+    let rest = c.in_ok-rest.rest.now in
+    let all = YieldsList-from_enumerate
+    (YieldsList-from_slice_split _ (λ x. eqb x 32) rest (cc) (cc) (cc)
+    (λ x b q k. search (rules, tests))) (cc) in
+    let turn = turn_word rest _ (YieldsList-turn all c.loop-n.yielded _ c.loop-n.yielded_by _ _ _
+    c.in-Some.is c.next.ensures.steps) in
+    let good = word_right _ c.keep_name.ensures.told c.in_ok-keep_name.was in
+    let whole = take_all 8 c.in-Some.word.now (shaped_name _ good).few in
+    rw (c.keep_name.ensures.kept good, whole, turn.0, length_push c.loop-n.yielded)
+    (named_next _ _ _ c.loop-n.invariant turn.1 turn.2 good)
 
-  part : take (from + n - from) (drop from line) ≡ word
-  part =
-      let e : from + n - from ≡ n = omega arith in
-      ap (λ (k : ℕ). take k (drop from line)) e ∙ part_front space (drop from line) found_word
-
-pub returns-then-first-ne7 : goal.returns-then-first-ne7
-returns-then-first-ne7 c =
-    c.turned_down.ensures
-    ∙ sym (answer_word _ (same_bytes_false _ signals_word
-    (λ e. c.if-first-ne7.true (c.find-first.ensures ∙ ap length e))))
-
-pub returns-then-not-starts_with : goal.returns-then-not-starts_with
-returns-then-not-starts_with c =
-    let long = sym c.find-first.ensures ∙ c.if-first-ne7.false in
-    c.turned_down-then-not-starts_with.ensures
-    ∙ sym (answer_word _
-    (rw (front_take space c.args.line.now, long)
-    (sym c.starts_with.ensures ∙ c.if-not-starts_with.true)))
-
-pub loop-at-init : goal.loop-at-init
-loop-at-init c =
-    let line = c.args.line.now in
-    let long = sym c.find-first.ensures ∙ c.if-first-ne7.false in
-    ([], (naming_starts line, (omega (arith, long, front_length space line), search rules)))
-
-pub overflow_add-end : goal.overflow_add-end
-overflow_add-end c =
-    let within = fits c.args.line.now (c.loop-at.at + 1) c.find.ensures (omega arith) in
-    omega arith
-
-pub slice_bounds-is_name-end : goal.slice_bounds-is_name-end
-slice_bounds-is_name-end c =
-    fits c.args.line.now (c.loop-at.at + 1) c.find.ensures (omega arith)
-
-pub returns-then-not-is_name : goal.returns-then-not-is_name
-returns-then-not-is_name c =
-    let line = c.args.line.now in
-    let first = first_is line c.find-first.ensures c.if-first-ne7.false
-    (sym c.starts_with.ensures ∙ c.if-not-starts_with.false) in
-    let other = ap name_shaped (sym (part line (c.loop-at.at + 1) c.find.ensures))
-    ∙ sym c.is_name.ensures ∙ c.if-not-is_name.true in
-    c.turned_down-then-not-is_name.ensures
-    ∙ sym (answer_name _ first
-    (naming_stops _ _ _ _ _ c.loop-at.invariant.1.0 c.loop-at-test.true other))
-
-pub loop-at-preserved : goal.loop-at-preserved
-loop-at-preserved c =
-    let line = c.args.line.now in
-    let from = c.loop-at.at + 1 in
-    let w = word line from c.find.ensures in
-    let is = part line from c.find.ensures in
-    let within = fits line from c.find.ensures (omega arith) in
-    let right : name_shaped w ≡ true = cc in
-    let name = c.name_of-name.ensures
-    ∙ ap name_of (ap (take 8) is ∙ take_all 8 w (shaped_name w right).few) in
-    let more = c.with_name-kept.ensures ∙ ap (name_added c.loop-at.kept.names c.loop-at.n) name in (
-      c.loop-at.invariant.0 ++ (w ∷ []),
-      (
-        (rw (more, found_word line from c.find.ensures)
-            (naming_next _ _ _ _ _ c.loop-at.invariant.1.0 c.loop-at-test.true right)),
-        (within, omega (arith, c.loop-at.invariant.1.1.1)),
-      ),
-    )
+pub overflow_add-count_of : goal.overflow_add-count_of
+overflow_add-count_of c =
+    let begins = some_kept _ _ _ c.strip_prefix.result c.strip_prefix.ensures.cases
+    c.ok_or.ensures.value c.in_ok-rest.was in
+    omega (arith, begins.2, c.count_of.ensures, count_le space c.in_ok-rest.rest.now)
 
 pub returns : goal.returns
+unfolding same_bytes
 returns c =
-    let first = first_is c.args.line.now c.find-first.ensures c.if-first-ne7.false
-    (sym c.starts_with.ensures ∙ c.if-not-starts_with.false) in
+    let begins = some_kept _ _ _ c.strip_prefix.result c.strip_prefix.ensures.cases
+    c.ok_or.ensures.value c.in_ok-rest.was in
+    let rest = c.in_ok-rest.rest.now in
+    let all = YieldsList-from_enumerate
+    (YieldsList-from_slice_split _ (λ x. eqb x 32) rest (cc) (cc) (cc)
+    (λ x b q k. search (rules, tests))) (cc) in
+    let done = YieldsList-end all c.loop-n.yielded _ c.loop-n.yielded_by _ _ c.in-None.is
+    c.next.ensures.steps in
+    let named = named_all _ _ _ c.loop-n.invariant (done.1 ∙ all_words rest) in
     c.judge_names.ensures
-    ∙ sym (ends_answer _ first _ _ _ _ c.loop-at.invariant.1.0 c.loop-at-test.false)
+    ∙ sym (answer_names _ begins.0 (rw begins.1 at named.0) (rw begins.1 at named.1)
+    (rw begins.1 at (words_counted rest c.count_of.ensures)))

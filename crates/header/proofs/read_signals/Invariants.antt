@@ -1,14 +1,9 @@
--- `header::read_signals`: the words up to the place `at` are names, and those of the first six are
--- kept. The measure: how many bytes are left.
-use Prim.Native.Nat.{ℕ, ◌≤◌, ◌-◌}
-use mathlib.Core.List.{List}
+-- `header::read_signals`: the words so far are names, and those of the first six are kept.
 use lib.ListN.{length}
-use Rattle.header.proofs.SignalLaws.{Naming}
+use Rattle.text.specs.Inner.Cut.{split}
+use Rattle.text.specs.Lines.{space}
+use Rattle.header.proofs.SignalLaws.{Named}
 use Rattle.header.proofs.read_signals.Given as goal
 
-abbrev pub invariant-loop-at : goal.invariant-loop-at
-invariant-loop-at l =
-    (done : List (List ℕ)) × (Naming l.line done l.kept.names l.n l.at × ((l.at ≤ length l.line) × (l.n ≤ l.at)))
-
-abbrev pub decreases-loop-at : goal.decreases-loop-at
-decreases-loop-at l = length l.line - l.at
+abbrev pub invariant-loop-n : goal.invariant-loop-n
+invariant-loop-n l = Named (split space l.rest) (length l.yielded) l.names

@@ -1,40 +1,44 @@
 -- `reader::read_body` meets its contract, line by line. Assumes nothing.
 use Prim.Native.Nat.{ℕ}
+use borrow.Author.Tests.{eqb-true, eqb-false}
 use mathlib.Core.List.{List}
 use mathlib.Core.Path.{sym, ap, ◌∙◌}
 use lib.ListN.{length}
+use Rattle.std.proofs.lemmas.Result.{err_from_is_err_and}
 use Rattle.text.specs.Inner.Cut.{split, lines}
 use Rattle.text.specs.Lines.{LF, space}
 use Rattle.text.proofs.Parts.{part_front}
 use Rattle.header.specs.Inner.Header.{signals_answer}
 use Rattle.reader.specs.Inner.File.{rows_answer}
-use Rattle.reader.proofs.Lines.{body_none, body_refused, body_rows, after_part}
+use Rattle.reader.proofs.Lines.{body_none, body_read, after_part, on_line_ok, on_line_err}
 use Rattle.reader.proofs.read_body.Goals as goal
 
-pub returns-then-rest-eq0 : goal.returns-then-rest-eq0
-returns-then-rest-eq0 c = c.refused.ensures ∙ sym (body_none _ _ c.if-rest-eq0.true)
+pub returns-then-is_empty : goal.returns-then-is_empty
+returns-then-is_empty c = sym (body_none _ _ (eqb-true _ 0 (sym c.if-is_empty.ensures)))
 
 pub slice_bounds-read_signals-end : goal.slice_bounds-read_signals-end
 slice_bounds-read_signals-end c =
     c.find-end.ensures ∙ ap length (sym (part_front LF c.args.rest.now c.find-end.ensures))
 
 -- What line 2 is read as.
-pub returns-then-read-ne0 : goal.returns-then-read-ne0
-returns-then-read-ne0 c =
+pub returns-in_err-signals : goal.returns-in_err-signals
+returns-in_err-signals c =
     let rest = c.args.rest.now in
-    let read = c.read_signals-read.ensures
+    let read = c.read_signals.ensures
     ∙ ap (λ (l : List ℕ). signals_answer (split space l)) (part_front LF rest c.find-end.ensures) in
-    c.refused-then-read-ne0.ensures
-    ∙ sym (body_refused rest _ c.if-rest-eq0.false c.read_signals-read.result read
-    c.if-read-ne0.true)
+    let lost = on_line_err 2 c.read_signals.result c.on_line.ensures c.in_err-signals.was in
+    let given = err_from_is_err_and c.from_residual.result c.from_residual.ensures.1 in
+    rw (given.1, given.2, lost.1)
+    (sym (body_read rest c.args.version (eqb-false _ 0 (sym c.if-is_empty.ensures)) _ (sym lost.0 ∙ read)))
 
 pub returns : goal.returns
 returns c =
     let rest = c.args.rest.now in
-    let got = c.read_signals-read.result in
-    let read = c.read_signals-read.ensures
+    let signals = c.in_ok-signals.signals in
+    let read = c.read_signals.ensures
     ∙ ap (λ (l : List ℕ). signals_answer (split space l)) (part_front LF rest c.find-end.ensures) in
+    let got = on_line_ok 2 c.read_signals.result c.on_line.ensures c.in_ok-signals.was in
     c.read_rows.ensures
-    ∙ ap (λ (l : List ℕ). rows_answer got.names got.count c.args.version (lines l))
-    (after_part rest c.find-end.result c.past-from.result c.find-end.ensures c.past-from.ensures)
-    ∙ sym (body_rows rest c.args.version c.if-rest-eq0.false got read c.if-read-ne0.false)
+    ∙ ap (λ (l : List ℕ). rows_answer signals.names signals.count c.args.version (lines l))
+    (after_part rest c.find-end.result c.past.result c.find-end.ensures c.past.ensures)
+    ∙ sym (body_read rest c.args.version (eqb-false _ 0 (sym c.if-is_empty.ensures)) _ (sym got ∙ read))

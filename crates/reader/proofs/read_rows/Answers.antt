@@ -1,14 +1,16 @@
 -- `reader::read_rows` meets its contract. Assumes nothing.
 use Prim.Native.Nat.{ℕ, ◌≤◌, ◌-◌, ◌+◌}
+use borrow.Author.Tests.{eqb-true, eqb-false}
 use borrow.Author.Rules.{rules}
 use native.Mathlib.Omega.{arith}
 use mathlib.Core.List.{List, [], ◌∷◌, ◌++◌}
 use mathlib.Core.Path.{◌≡◌, sym, ap, ap₂, ◌∙◌}
 use lib.ListN.{length-map, length, take, drop, length-drop}
+use Rattle.std.specs.Prelude.{Result, Ok}
+use Rattle.std.proofs.lemmas.Result.{err_from_is_err_and}
 use Rattle.letters.specs.Letter.{width}
-use Rattle.table.specs.declared.Name.{Name}
-use Rattle.std.specs.Prelude.{Ok}
 use Rattle.table.specs.declared.Row.{Row}
+use Rattle.table.specs.declared.Signals.{Signals}
 use Rattle.text.specs.Inner.Cut.{front}
 use Rattle.text.specs.Lines.{LF}
 use Rattle.text.specs.declared.Version.{Version}
@@ -17,9 +19,9 @@ use Rattle.text.proofs.Splits.{front_length}
 use Rattle.rows.specs.Inner.Row.{row_answer}
 use Rattle.rows.specs.declared.RowRead.{RowRead}
 use Rattle.reader.specs.Inner.File.{row_of}
-use Rattle.reader.specs.Reading.{refused_file}
+use Rattle.reader.proofs.Lines.{on_line_ok, on_line_err}
 use Rattle.reader.proofs.Gathering.{rows_none, rows_fault, rows_accepted}
-use Rattle.reader.proofs.Gathering.{gathering_starts, gathering_step, gathering_fault}
+use Rattle.reader.proofs.Gathering.{gathering_starts, gathering_next, gathering_fault}
 use Rattle.reader.proofs.Gathering.{gathering_ninth, gathering_ends, gathered_all}
 use Rattle.reader.proofs.read_rows.Goals as goal
 
@@ -38,25 +40,27 @@ module _ (whole : List ℕ) (at : ℕ) {n : ℕ}
       ap (λ (k : ℕ). take k (drop at whole)) e ∙ part_front LF (drop at whole) found
 
   -- And what it is read as.
-  read_is : (names : List Name) (signals : ℕ) (version : Version) {read : RowRead}
-      → read ≡ row_answer (take signals names) (width signals) version
+  read_is : (signals : Signals) (version : Version) {read : Result RowRead ℕ}
+      → read ≡ row_answer (take signals.count signals.names) (width signals.count) version
       (take (at + n - at) (drop at whole))
-      → read ≡ row_answer (take signals names) (width signals) version (front LF (drop at whole))
-  read_is names signals version e =
-      e ∙ ap (row_answer (take signals names) (width signals) version) part
+      → row_answer (take signals.count signals.names) (width signals.count) version
+      (front LF (drop at whole)) ≡ read
+  read_is signals version e =
+      sym (e ∙ ap (row_answer (take signals.count signals.names) (width signals.count) version) part)
 
-pub returns-then-rest-eq0 : goal.returns-then-rest-eq0
-returns-then-rest-eq0 c = c.refused.ensures ∙ sym (rows_none _ _ _ _ c.if-rest-eq0.true)
+pub returns-then-is_empty : goal.returns-then-is_empty
+returns-then-is_empty c = sym (rows_none _ _ _ _ (eqb-true _ 0 (sym c.if-is_empty.ensures)))
 
 pub loop-at-init : goal.loop-at-init
-loop-at-init c = ([], (gathering_starts _ _ _ _, (search rules, omega (arith, c.if-rest-eq0.false))))
+loop-at-init c =
+    let some = eqb-false _ 0 (sym c.if-is_empty.ensures) in
+    ([], (gathering_starts _ _ _ _, (search rules, omega (arith, some))))
 
 pub returns-then-i-ge-MOST_ROWS : goal.returns-then-i-ge-MOST_ROWS
 returns-then-i-ge-MOST_ROWS c =
     let inv = c.loop-at.invariant.1 in
-    c.refused-then-i-ge-MOST_ROWS.ensures
-    ∙ sym (rows_fault _ _ _ _ inv.1.1 _ _
-    (gathering_ninth _ _ _ _ _ _ _ _ _ inv.0 c.loop-at-test.true c.if-i-ge-MOST_ROWS.true))
+    sym (rows_fault _ _ _ _ inv.1.1 _ _
+    (gathering_ninth _ _ _ _ _ _ _ _ _ inv.0 c.loop-at-test.true (omega arith)))
 
 pub overflow_add-end : goal.overflow_add-end
 overflow_add-end c =
@@ -66,30 +70,28 @@ overflow_add-end c =
 pub slice_bounds-read_row-end : goal.slice_bounds-read_row-end
 slice_bounds-read_row-end c = fits c.args.rest.now c.loop-at.at c.find.ensures (omega arith)
 
-pub returns-then-read-ne0 : goal.returns-then-read-ne0
-returns-then-read-ne0 c =
+pub returns-in_err-read : goal.returns-in_err-read
+returns-in_err-read c =
     let a = c.args in
     let inv = c.loop-at.invariant.1 in
-    let read = read_is a.rest.now c.loop-at.at c.find.ensures a.names a.signals a.version
-    c.read_row-read.ensures in
-    c.refused-then-read-ne0.ensures
-    ∙ ap (λ (x : RowRead). refused_file x.number (c.loop-at.n + 3)) read
-    ∙ sym (rows_fault _ _ _ _ inv.1.1 _ _
-    (gathering_fault _ _ _ _ _ _ _ _ _ inv.0 c.loop-at-test.true c.if-i-ge-MOST_ROWS.false
-    (λ z. c.if-read-ne0.true (ap (λ (x : RowRead). x.number) read ∙ z))))
+    let read = read_is a.rest.now c.loop-at.at c.find.ensures a.signals a.version c.read_row.ensures in
+    let lost = on_line_err (c.loop-at.n + 3) c.read_row.result c.on_line.ensures c.in_err-read.was in
+    let given = err_from_is_err_and c.from_residual.result c.from_residual.ensures.1 in
+    rw (given.1, given.2, lost.1)
+    (sym (rows_fault _ _ _ _ inv.1.1 _ _
+    (gathering_fault _ _ _ _ _ _ _ _ _ inv.0 c.loop-at-test.true (omega arith) (read ∙ lost.0))))
 
 pub loop-at-preserved : goal.loop-at-preserved
 loop-at-preserved c =
     let a = c.args in
     let inv = c.loop-at.invariant.1 in
     let within = fits a.rest.now c.loop-at.at c.find.ensures (omega arith) in
-    let read = read_is a.rest.now c.loop-at.at c.find.ensures a.names a.signals a.version
-    c.read_row-read.ensures in (
-      c.loop-at.invariant.0 ++ (c.read_row-read.result ∷ []),
+    let read = read_is a.rest.now c.loop-at.at c.find.ensures a.signals a.version c.read_row.ensures in
+    let got = on_line_ok (c.loop-at.n + 3) c.read_row.result c.on_line.ensures c.in_ok-read.was in (
+      c.loop-at.invariant.0 ++ (c.in_ok-read.read ∷ []),
       (
-        gathering_step _ _ _ _ _ _ _ _ _ inv.0 c.loop-at-test.true c.if-i-ge-MOST_ROWS.false
-            c.read_row-read.result read c.find.result (found a.rest.now c.loop-at.at c.find.ensures)
-            c.if-read-ne0.false,
+        rw (c.from-i.ensures, found a.rest.now c.loop-at.at c.find.ensures)
+            (gathering_next _ _ _ _ _ _ _ _ _ inv.0 c.loop-at-test.true (omega arith) (read ∙ got)),
         (omega arith, inv.1.1),
       ),
     )
@@ -100,7 +102,7 @@ returns c =
     let inv = c.loop-at.invariant.1 in
     ap₂ (λ (k : ℕ) (l : List Row). record {
       outcome = Ok tt;
-      table = record { signals = a.signals; names = a.names; count = k; rows = l };
+      table = record { signals = a.signals.count; names = a.signals.names; count = k; rows = l };
     })
     (sym (length-map c.loop-at.invariant.0 row_of ∙ inv.0.many))
     (c.rows_of-rows.ensures ∙ gathered_all _ _ _ _ _ _ _ _ _ inv.0)

@@ -9,8 +9,8 @@ use Rattle.reader.proofs.read_rows.Given as goal
 
 abbrev pub invariant-loop-at : goal.invariant-loop-at
 invariant-loop-at l =
-    (reads : List RowRead) × (Gathering l.names l.signals l.version l.rest reads l.sets l.bounds l.n
-    l.at × ((l.at ≤ length l.rest + 1) × (1 ≤ length l.rest)))
+    (reads : List RowRead) × (Gathering l.signals.names l.signals.count l.version l.rest reads l.sets
+    l.bounds l.n l.at × ((l.at ≤ length l.rest + 1) × (1 ≤ length l.rest)))
 
 abbrev pub decreases-loop-at : goal.decreases-loop-at
 decreases-loop-at l = length l.rest + 1 - l.at

@@ -1,49 +1,41 @@
 -- `rows::read_row` meets its contract, by the tests on the way to each return and by what the
 -- functions below ensure. Assumes nothing.
-use borrow.Author.Tests.{ne_eqb}
-use native.Mathlib.Omega.{arith}
-use mathlib.Core.Path.{◌≡◌, sym, ◌∙◌}
+use borrow.Author.Tests.{eqb-true}
+use mathlib.Core.Path.{sym, ◌∙◌}
+use lib.Dec.{eqb}
+use lib.ListN.{take}
+use Rattle.std.proofs.lemmas.Result.{err_from_is_err_and}
+use Rattle.letters.specs.Lists.{same_bytes}
+use Rattle.letters.proofs.Lists.{and_left, and_right}
 use Rattle.text.specs.Lines.{count, comma}
-use Rattle.rows.specs.Inner.Row.{row_answer}
-use Rattle.rows.proofs.RowLaws.{rule_length, rule_commas, row_fault, row_passed, values_held}
-use Rattle.rows.proofs.RowLaws.{bounds_low}
+use Rattle.text.specs.Words.{rule_word}
+use Rattle.rows.specs.Inner.Row.{row_fields, row_answer}
+use Rattle.rows.proofs.RowLaws.{rule_length, rule_commas, bounds_fit}
 use Rattle.rows.proofs.read_row.Goals as goal
 
-pub returns-then-not-starts_with : goal.returns-then-not-starts_with
+pub returns-then-not-is_rule : goal.returns-then-not-is_rule
 unfolding row_answer
-returns-then-not-starts_with c =
-    rw (sym c.starts_with.ensures ∙ c.if-not-starts_with.true) c.turned_down.ensures
+returns-then-not-is_rule c = rw (sym c.if-not-is_rule.ensures)
 
-pub returns-then-count_of-ne11 : goal.returns-then-count_of-ne11
-unfolding row_answer
-returns-then-count_of-ne11 c =
-    let rule = sym c.starts_with.ensures ∙ c.if-not-starts_with.false in
-    let other = rw c.count_of.ensures at c.if-count_of-ne11.true in
-    rw (rule, ne_eqb _ 11 other) c.turned_down-then-count_of-ne11.ensures
-
-pub read_values-read-requires : goal.read_values-read-requires
-read_values-read-requires c =
+pub read_values-requires : goal.read_values-requires
+read_values-requires c =
     let line = c.args.line.now in
-    let rule = sym c.starts_with.ensures ∙ c.if-not-starts_with.false in
-    let commas : count comma c.args.line.now ≡ 11 = omega arith in
-    (rule_length line rule, rule_commas line rule ∙ commas)
+    let starts = same_bytes (take 5 line) rule_word in
+    let rule = and_left starts (eqb (count comma line) 11) (sym c.if-not-is_rule.ensures) in
+    let commas = and_right starts (eqb (count comma line) 11) (sym c.if-not-is_rule.ensures) in
+    (rule_length line rule, rule_commas line rule ∙ eqb-true (count comma line) 11 commas)
 
-pub returns-then-number-ne0 : goal.returns-then-number-ne0
-unfolding row_answer
-returns-then-number-ne0 c =
-    let rule = sym c.starts_with.ensures ∙ c.if-not-starts_with.false in
-    let commas : count comma c.args.line.now ≡ 11 = omega arith in
-    let fault = row_fault _ _ c.read_values-read.ensures c.if-number-ne0.true in
-    rw (rule, commas) (c.turned_down-then-number-ne0.ensures ∙ sym fault)
+pub returns-in_err-read_values : goal.returns-in_err-read_values
+unfolding row_answer row_fields
+returns-in_err-read_values c =
+    let given = err_from_is_err_and c.from_residual.result c.from_residual.ensures.1 in
+    rw (given.1, given.2, ← c.if-not-is_rule.ensures, ← c.read_values.ensures, c.in_err-read_values.was)
 
 pub judge_row-requires : goal.judge_row-requires
 judge_row-requires c =
-    rw (values_held _ _ c.read_values-read.ensures c.if-number-ne0.false) (bounds_low _ _ _)
+    bounds_fit _ _ _ _ (sym c.read_values.ensures ∙ c.in_ok-read_values.was)
 
 pub returns : goal.returns
-unfolding row_answer
+unfolding row_answer row_fields
 returns c =
-    let rule = sym c.starts_with.ensures ∙ c.if-not-starts_with.false in
-    let commas : count comma c.args.line.now ≡ 11 = omega arith in
-    let good = row_passed _ _ c.read_values-read.ensures c.if-number-ne0.false in
-    rw (rule, commas) (c.judge_row.ensures ∙ sym good)
+    rw (← c.if-not-is_rule.ensures, ← c.read_values.ensures, c.in_ok-read_values.was) c.judge_row.ensures

@@ -1,17 +1,20 @@
 -- `rows::read_values` meets its contract. Assumes nothing.
+use native.Mathlib.Nat.{add_assoc}
 use native.Mathlib.Omega.{arith}
 use mathlib.Core.Path.{sym, ◌∙◌}
+use Rattle.std.proofs.lemmas.Result.{err_from_is_err_and}
 use Rattle.text.proofs.Parts.{rest_whole}
 use Rattle.rows.proofs.RowLaws.{here_front, gathered_next, gathered_fault, gathered_all}
 use Rattle.rows.proofs.read_values.Goals as goal
 
 -- Where a turn stands, what it reads there, and where it finds the comma.
-pub returns-in_default : goal.returns-in_default
-returns-in_default c =
+pub returns-in_err-value : goal.returns-in_err-value
+returns-in_err-value c =
     let here = c.loop-k.invariant.here c.loop-k-test.true in
-    let read = sym (rw rest_whole at c.read_field-field.ensures) in
-    rw (c.number_of.ensures, c.in_default.is)
-    (sym (gathered_fault _ _ _ _ _ here _ (read ∙ c.in_default.is) _ c.loop-k.invariant))
+    let read = sym (rw rest_whole at c.read_field.ensures) in
+    let given = err_from_is_err_and c.from_residual.result c.from_residual.ensures.1 in
+    rw (given.1, given.2)
+    (sym (gathered_fault _ _ _ _ _ here (read ∙ c.in_err-value.was) _ c.loop-k.invariant))
 
 pub overflow_add-at : goal.overflow_add-at
 overflow_add-at c =
@@ -29,9 +32,9 @@ pub loop-k-preserved : goal.loop-k-preserved
 loop-k-preserved c =
     let here = c.loop-k.invariant.here c.loop-k-test.true in
     let found = rw rest_whole at c.find-end.ensures in
-    let read = sym (rw rest_whole at c.read_field-field.ensures) in
-    rw found
-    (gathered_next _ _ _ _ _ here _ (read ∙ c.in-Value.is) _ c.loop-k-test.true
+    let read = sym (rw rest_whole at c.read_field.ensures) in
+    rw (found, ← add_assoc)
+    (gathered_next _ _ _ _ _ here (read ∙ c.in_ok-value.was) _ c.loop-k-test.true
     c.loop-k.invariant)
 
 pub returns : goal.returns

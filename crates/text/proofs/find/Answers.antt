@@ -1,28 +1,15 @@
--- `text::find` meets its contract. The invariant: the front is the i bytes passed and the front
--- from i on. The measure: how many places are left. Assumes nothing.
-use borrow.Author.Rules.{rules}
-use native.Mathlib.Omega.{arith}
-use Rattle.text.proofs.Splits.{front_next, front_stop, front_end}
+-- `text::find` meets its contract: the front is as long as the library's search for the byte says.
+-- Assumes nothing.
+use Rattle.std.proofs.Common.{eqb, rules, tests}
+use Rattle.std.proofs.lemmas.Iterator.{YieldsList-from_slice}
+use Rattle.std.proofs.lemmas.Iterator.Search.{position_from_yields_List}
+use Rattle.text.proofs.Splits.{front_position, position_unwrapped}
 use Rattle.text.proofs.find.Goals as goal
-
-pub returns-then-s-i : goal.returns-then-s-i
-returns-then-s-i c =
-    let head = c.before.before.before in
-    let args = head.before.args in
-    let i = head.loop-i.i in
-    let stops = front_stop args.b args.s.now i (search rules) c.if-s-i.true in
-    omega arith
-
-pub loop-i-preserved : goal.loop-i-preserved
-loop-i-preserved c =
-    let head = c.before.before.before in
-    let args = head.before.args in
-    let i = head.loop-i.i in
-    let goes_on = front_next args.b args.s.now i (search rules) c.if-s-i.false in
-    omega arith
 
 pub returns : goal.returns
 returns c =
-    let args = c.before.before.args in
-    let ends = front_end args.b args.s.now c.before.loop-i.i c.loop-i-test.false in
-    omega arith
+    let found = position_from_yields_List (λ x. eqb x c.args.b) _ _ c.position.result
+    c.position.ensures.ran (YieldsList-from_slice c.args.s.now cc)
+    (λ x b q k. search (rules, tests)) in
+    rw (front_position, ← position_unwrapped (λ x. eqb x c.args.b) c.args.s.now, ← found)
+    c.unwrap_or.ensures

@@ -1,52 +1,57 @@
--- `reader::read` meets its contract, number by number. Assumes nothing.
+-- `reader::read_file` meets its contract, number by number. Assumes nothing.
 use Prim.Native.Nat.{ℕ, ◌-◌, ◌≤◌}
+use borrow.Author.Tests.{eqb-true, eqb-false}
 use native.Mathlib.Omega.{arith}
 use mathlib.Core.List.{List}
 use mathlib.Core.Path.{◌≡◌, sym, ap, ◌∙◌}
 use lib.ListN.{length, get_or}
+use Rattle.std.proofs.lemmas.Result.{err_from_is_err_and}
 use Rattle.text.specs.Inner.Cut.{lines}
 use Rattle.text.specs.Lines.{LF}
 use Rattle.text.proofs.Parts.{part_front}
 use Rattle.header.specs.Inner.Header.{version_answer}
 use Rattle.reader.specs.Inner.File.{body_answer}
 use Rattle.reader.proofs.Lines.{read_empty, read_long, read_open, file_read, after_part}
-use Rattle.reader.proofs.read.Goals as goal
+use Rattle.reader.proofs.Lines.{on_line_ok, on_line_err}
+use Rattle.reader.proofs.read_file.Goals as goal
 
-pub returns-then-bytes-eq0 : goal.returns-then-bytes-eq0
-returns-then-bytes-eq0 c = c.refused.ensures ∙ sym (read_empty _ c.if-bytes-eq0.true)
+pub returns-then-is_empty : goal.returns-then-is_empty
+returns-then-is_empty c = sym (read_empty _ (eqb-true _ 0 (sym c.if-is_empty.ensures)))
 
 pub returns-then-bytes-gt-MOST_BYTES : goal.returns-then-bytes-gt-MOST_BYTES
 returns-then-bytes-gt-MOST_BYTES c =
-    c.refused-then-bytes-gt-MOST_BYTES.ensures
-    ∙ sym (read_long _ c.if-bytes-eq0.false (omega arith))
+    sym (read_long _ (eqb-false _ 0 (sym c.if-is_empty.ensures)) (omega arith))
 
 pub returns-then-bytes-ne-LF : goal.returns-then-bytes-ne-LF
 returns-then-bytes-ne-LF c =
     let short : length c.args.bytes.now ≤ 4096 = omega arith in
-    c.refused-then-bytes-ne-LF.ensures
-    ∙ sym (read_open _ c.if-bytes-eq0.false short c.if-bytes-ne-LF.true)
+    sym (read_open _ (eqb-false _ 0 (sym c.if-is_empty.ensures)) short c.if-bytes-ne-LF.true)
 
 pub slice_bounds-read_version-end : goal.slice_bounds-read_version-end
 slice_bounds-read_version-end c =
     c.find-end.ensures ∙ ap length (sym (part_front LF c.args.bytes.now c.find-end.ensures))
 
 -- What line 1 is read as.
-pub returns-in-Known : goal.returns-in-Known
-returns-in-Known c =
+pub returns-in_err-version : goal.returns-in_err-version
+returns-in_err-version c =
     let bytes = c.args.bytes.now in
     let short : length bytes ≤ 4096 = omega arith in
     let ended : get_or bytes (length bytes - 1) 0 ≡ LF = omega arith in
     let read = c.read_version.ensures ∙ ap version_answer (part_front LF bytes c.find-end.ensures) in
-    c.read_body.ensures
-    ∙ ap (λ (l : List ℕ). body_answer c.in-Known.version (lines l))
-    (after_part bytes c.find-end.result c.past-from.result c.find-end.ensures c.past-from.ensures)
-    ∙ sym (file_read bytes c.if-bytes-eq0.false short ended _ (sym c.in-Known.is ∙ read))
+    let lost = on_line_err 1 c.read_version.result c.on_line.ensures c.in_err-version.was in
+    let given = err_from_is_err_and c.from_residual.result c.from_residual.ensures.1 in
+    rw (given.1, given.2, lost.1)
+    (sym (file_read bytes (eqb-false _ 0 (sym c.if-is_empty.ensures)) short ended _
+    (sym lost.0 ∙ read)))
 
-pub returns-in-Refused : goal.returns-in-Refused
-returns-in-Refused c =
+pub returns : goal.returns
+returns c =
     let bytes = c.args.bytes.now in
     let short : length bytes ≤ 4096 = omega arith in
     let ended : get_or bytes (length bytes - 1) 0 ≡ LF = omega arith in
     let read = c.read_version.ensures ∙ ap version_answer (part_front LF bytes c.find-end.ensures) in
-    c.refused-in-Refused.ensures
-    ∙ sym (file_read bytes c.if-bytes-eq0.false short ended _ (sym c.in-Refused.is ∙ read))
+    let got = on_line_ok 1 c.read_version.result c.on_line.ensures c.in_ok-version.was in
+    c.read_body.ensures
+    ∙ ap (λ (l : List ℕ). body_answer c.in_ok-version.version (lines l))
+    (after_part bytes c.find-end.result c.past.result c.find-end.ensures c.past.ensures)
+    ∙ sym (file_read bytes (eqb-false _ 0 (sym c.if-is_empty.ensures)) short ended _ (sym got ∙ read))
