@@ -49,6 +49,7 @@ fn rows_of(
 }
 
 // The lines from line 3 on: a row each, in a file of a version.
+#[tactic(auto, using(crate::proofs::Gathering::rows_none))]
 fn read_rows(rest: &[u8], signals: Signals, version: Version) -> Result<Table, Refusal>
     ensures { reading result ≡ rows_answer signals.names signals.count version (lines rest.now) }
 {
@@ -100,6 +101,7 @@ fn past(s: &[u8], end: usize) -> usize
 }
 
 // The lines from line 2 on, in a file of a version.
+#[tactic(auto, using(crate::proofs::Lines::body_none, text::proofs::Parts::part_front))]
 fn read_body(rest: &[u8], version: Version) -> Result<Table, Refusal>
     ensures { reading result ≡ body_answer version (lines rest.now) }
 {
@@ -112,6 +114,7 @@ fn read_body(rest: &[u8], version: Version) -> Result<Table, Refusal>
 }
 
 // The lines of a file; or number and line.
+#[tactic(auto, using(crate::proofs::Lines::read_empty, crate::proofs::Lines::read_long, crate::proofs::Lines::read_open, text::proofs::Parts::part_front))]
 fn read_file(bytes: &[u8]) -> Result<Table, Refusal>
     ensures { reading result ≡ read_answer bytes.now }
 {
