@@ -1,7 +1,5 @@
--- `Checking`: what is reported of a file, by what the reader makes of it. `Writing`: the same of its
--- table written again, and how long that can be. `ReportLength`, `TotalsLength`: how long a report
--- and totals can be.
-pub mod Checking
+-- `Writing`: a table that is to be written, and how long what is printed can be. `ReportLength`,
+-- `TotalsLength`: how long a report and totals can be.
 pub mod ReportLength
 pub mod TotalsLength
 pub mod Writing

@@ -9,7 +9,7 @@ use lib.ListN.{length, length-replicate}
 use borrow.Author.Tests.{leb-true}
 use Rattle.table.specs.Limits.{most_rows}
 use Rattle.table.specs.Valid.{table_valid}
-use Rattle.std.specs.Prelude.{Ok}
+use Rattle.std.specs.Prelude.{Ok, Err}
 use Rattle.table.specs.declared.Table.{Table}
 use Rattle.table.proofs.Laws.{table_valid_count, table_valid_signals}
 use Rattle.traces.specs.Inner.Judgement.{Judgement}
@@ -20,9 +20,8 @@ use Rattle.reader.proofs.Accepted.{Decided, taken, turned, read_decided}
 use Rattle.reader.proofs.Valid.{file_valid}
 use Rattle.lists.specs.Room.{most_room}
 use Rattle.search.specs.Inner.Same.{same_phases}
-use Rattle.verdict.specs.declared.Found.TheVariants.{Refused as FoundRefused}
 use Rattle.verdict.specs.declared.RowLists.{RowLists}
-use Rattle.verdict.specs.Found.{values_of, refused_found, trapped_found}
+use Rattle.verdict.specs.Found.{Found, values_of, refused_found, trapped_found}
 use Rattle.search.specs.Lent.{Lent, Searched, room_of, system_of, traced}
 use Rattle.search.specs.Inner.Computed.{judged, search_answer}
 use Rattle.search.proofs.Room.{room_most}
@@ -31,7 +30,7 @@ use Rattle.checker.specs.FileReport.{program_lent, most_report}
 use Rattle.checker.specs.Inner.Computed.{after_reading, check_answer}
 
 refused_few : (rows number line : ℕ) → rows ≤ most_rows → number < 1000 → line < 1000
-    → FewDigits rows most_room (values_of (FoundRefused (record { number = number; line = line })))
+    → FewDigits rows most_room (values_of (Err (record { number = number; line = line })))
 refused_few rows number line r m n = record {
   rules = omega arith;
   number = m;
@@ -100,7 +99,7 @@ checked_short bytes lent short = go (read_decided bytes)
     go : Decided bytes (read_answer bytes) → length (check_answer bytes lent).report ≤ most_report
     go (taken table file e) = rw e (accepted_short table lent short (file_valid bytes table file))
     go (turned number line one small low e) =
-        let found = FoundRefused (record { number = number; line = line }) in
+        let found : Found = Err (record { number = number; line = line }) in
         let few = report_length 0 0 most_room 3 17 lent.trace (omega arith) (omega arith) found
         (refused_few 0 number line (omega arith) (omega arith) (omega arith)) in
         rw e (omega (arith, few))

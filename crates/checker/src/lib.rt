@@ -1,7 +1,7 @@
 // The checker: the bytes of a table file in, the bytes of its report, of its totals or of its table
 // written again out. specs/FileReport.antt and specs/FileLoad.antt, and `RightWriting` of the crate
 // demands, say what is right, for every file and all lent memory.
-#![tactic(auto)]
+#![tactic(auto, unfolding(crate::specs::Inner::Computed::check_answer, crate::specs::Inner::Computed::load_answer))]
 
 ghost use Rattle.std.specs.Prelude.{true, ◌≡◌, length, Ok};
 ghost use Rattle.table.specs.Valid.{table_valid};
@@ -14,7 +14,6 @@ ghost use Rattle.checker.specs.Inner.Computed.{after_writing, writing_answer};
 
 use scratch::MOST_INDEX;
 use table::{MOST_BYTES, Table};
-use verdict::Found;
 
 // "The program lends room 4,096 and a trace buffer of as many bytes."
 const ROOM: usize = 4096;
@@ -45,13 +44,12 @@ pub fn check(
         index.old trace.old) out.old }
 {
     let read = reader::read(bytes);
-    let outcome = read.outcome;
-    match outcome {
-        Err(refusal) => report::write(Found::Refused(refusal), 0, 0, &*trace, out),
+    match read.outcome {
+        Err(refusal) => report::write(Err(refusal), 0, 0, trace, out),
         Ok(()) => {
             let table = read.table;
             let found = search::search(table, states, lost, index, trace);
-            report::write(found, table.count, table.signals, &*trace, out)
+            report::write(found, table.count, table.signals, trace, out)
         }
     }
 }
@@ -78,26 +76,24 @@ pub fn load_file(bytes: &[u8], out: &mut [u8]) -> usize
         ≡ written (load_answer bytes.now) out.old }
 {
     let read = reader::read(bytes);
-    let outcome = read.outcome;
-    match outcome {
+    match read.outcome {
         Err(refusal) => totals::write(load::refused(refusal), 0, out),
         Ok(()) => {
-            let table = read.table;
-            let ran = load::run(table, LOAD_START, LOAD_TICKS);
-            totals::write(ran, table.count, out)
+            let ran = load::run(read.table, LOAD_START, LOAD_TICKS);
+            totals::write(ran, read.table.count, out)
         }
     }
 }
 
 // The written table, or its refused line.
+#[tactic(auto, unfolding(writer::specs::File::write_answer))]
 fn write_table(table: Table, out: &mut [u8; MOST_BYTES]) -> usize
     requires { table_valid table ≡ true }
     ensures value { result ≡ length (after_writing (Ok tt) table) }
     ensures out_after { out.new ≡ written (after_writing (Ok tt) table) out.old }
 {
     let call = writer::write(table, out);
-    let outcome = call.outcome;
-    match outcome {
+    match call.outcome {
         Err(refusal) => lines::write_refused(refusal, out),
         Ok(()) => call.length,
     }
@@ -107,18 +103,15 @@ fn write_table(table: Table, out: &mut [u8; MOST_BYTES]) -> usize
 // and answers the file's length. A file that is refused, and a table that is too long to be
 // written, give their refused line instead. `out` is as long as a file can be, so 24 never comes
 // up.
+#[tactic(auto, using(crate::proofs::Writing::accepted_valid), unfolding(crate::specs::Inner::Computed::writing_answer))]
 pub fn write_file(bytes: &[u8], out: &mut [u8; MOST_BYTES]) -> usize
     ensures value { result ≡ length (writing_answer bytes.now) }
     ensures out_after { out.new
         ≡ written (writing_answer bytes.now) out.old }
 {
     let read = reader::read(bytes);
-    let outcome = read.outcome;
-    match outcome {
+    match read.outcome {
         Err(refusal) => lines::write_refused(refusal, out),
-        Ok(()) => {
-            let table = read.table;
-            write_table(table, out)
-        }
+        Ok(()) => write_table(read.table, out),
     }
 }

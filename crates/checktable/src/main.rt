@@ -3,7 +3,6 @@
 // error, and nothing is printed then.
 #![tactic(auto)]
 
-use input::Input;
 use std::io;
 
 // No report is longer: `most_report` of the crate checker.
@@ -21,7 +20,7 @@ fn print_report(rt: &(impl Print + Eprint), file: &[u8]) -> io::Result<()> {
 fn main(rt: HostRuntime) -> io::Result<()> {
     let mut file = input::buffer();
     match input::read_all(&mut rt.stdin(), &mut file) {
-        Input::Read(length) => print_report(&rt, &file[..length]),
-        Input::Failed => eprintln!(rt; "checktable: standard input cannot be read"),
+        Ok(length) => print_report(&rt, &file[..length]),
+        Err(_) => eprintln!(rt; "checktable: standard input cannot be read"),
     }
 }

@@ -23,7 +23,7 @@ use Rattle.step.specs.Tick.{row_system}
 use Rattle.pass.specs.Watch.{phases_of, start_watch}
 use Rattle.pass.proofs.Starts.{start_phase}
 use Rattle.load.specs.declared.Ran.{Ran}
-use Rattle.load.specs.declared.Totals.{Totals}
+use Rattle.load.specs.Figures.{Totals}
 use Rattle.load.specs.Load.{load_of, times_in, totals_of, no_totals, longest_run, run_answer}
 use Rattle.load.specs.Further.Balance.{Open}
 use Rattle.load.specs.Further.Balance.Open.{delay, action}

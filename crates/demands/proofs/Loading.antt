@@ -19,7 +19,7 @@ use Rattle.step.specs.Phase.{is_broken}
 use Rattle.pass.specs.Watch.{phases_of, start_watch}
 use Rattle.pass.specs.Answer.{tick_answer}
 use Rattle.load.specs.declared.Ran.{Ran}
-use Rattle.load.specs.declared.Totals.{Totals}
+use Rattle.load.specs.Figures.{Totals}
 use Rattle.load.specs.Load.{load_of, totals_of, no_totals, sums_of, longest_run, run_answer}
 use Rattle.load.specs.Further.Balance.{Balanced, SumsBalanced, OneMore, AtMost, Open}
 use Rattle.load.specs.Further.Numbers.{IsLoad}

@@ -13,12 +13,11 @@ use Rattle.table.specs.declared.Name.{Name}
 use Rattle.table.specs.declared.Table.{Table}
 use Rattle.text.specs.Bounds.{IsBound}
 use Rattle.text.specs.Inner.Bounds.{bound_of}
-use Rattle.text.specs.declared.Bound.TheVariants.{Value}
+use Rattle.std.specs.Prelude.{Some, Result}
 use Rattle.text.proofs.Bounds.{bound_of_right, bound_of_complete}
 use Rattle.conditions.specs.Condition.{Condition, choice, text, holds_at}
 use Rattle.conditions.specs.Judge.{IsCondition, RightCondition}
 use Rattle.conditions.specs.Inner.Judge.{judge}
-use Rattle.conditions.specs.declared.Judged.{Judged}
 use Rattle.conditions.proofs.Conditions.{trees_letters}
 use Rattle.conditions.proofs.Judging as Judging
 use Rattle.reader.specs.Inner.File.{read_answer}
@@ -83,12 +82,12 @@ module _ (names : List Name) (n : ℕ) (xs : List ℕ) where
   pub judge_right : RightCondition names n xs (judge names n xs)
   judge_right = Judging.judge_right names n xs
 
-  pub right_unique : {a b : Judged} → RightCondition names n xs a → RightCondition names n xs b
+  pub right_unique : {a b : Result ℕ ℕ} → RightCondition names n xs a → RightCondition names n xs b
       → a ≡ b
   right_unique = Judging.right_unique names n xs
 
-pub bound_right : (xs : List ℕ) (n : ℕ) → bound_of xs ≡ Value n → IsBound xs n
+pub bound_right : (xs : List ℕ) (n : ℕ) → bound_of xs ≡ Some n → IsBound xs n
 bound_right = bound_of_right
 
-pub bound_found : (xs : List ℕ) (n : ℕ) → IsBound xs n → bound_of xs ≡ Value n
+pub bound_found : (xs : List ℕ) (n : ℕ) → IsBound xs n → bound_of xs ≡ Some n
 bound_found = bound_of_complete

@@ -18,7 +18,7 @@ use Rattle.reader.specs.Grammar.{IsFile}
 use Rattle.reader.proofs.Accepted.{file_accepted}
 use Rattle.reader.proofs.Valid.{file_valid}
 use Rattle.lists.specs.Room.{most_room}
-use Rattle.verdict.specs.declared.Found.{Found}
+use Rattle.verdict.specs.Found.{Found}
 use Rattle.verdict.specs.declared.RowLists.{RowLists}
 use Rattle.verdict.specs.Found.{values_of, refused_found}
 use Rattle.verdict.proofs.Buffer.{written_front, written_length}

@@ -12,7 +12,7 @@ use Rattle.text.specs.Lines.{ended}
 use Rattle.reader.specs.Reading.{refused_file}
 use Rattle.reader.specs.Inner.File.{read_answer}
 use Rattle.reader.specs.Grammar.{IsFile}
-use Rattle.verdict.specs.declared.Found.{Found}
+use Rattle.verdict.specs.Found.{Found}
 use Rattle.verdict.specs.declared.RowLists.{RowLists}
 use Rattle.verdict.specs.Found.{Verdict, values_of}
 use Rattle.search.specs.Lent.{Lent, room_of, system_of}

@@ -29,8 +29,8 @@ use Rattle.text.specs.Lines.{ended, count}
 use Rattle.conditions.specs.Condition.{name_of, place}
 use Rattle.conditions.specs.Inner.Judge.{deep, judge}
 use Rattle.conditions.specs.Inner.Reading.{is_at, name_at, digit_at, reads, condition_of}
-use Rattle.header.specs.Inner.Header.{version_answer, name_shaped, signals_number, signals_answer}
-use Rattle.rows.specs.Inner.Row.{field_of, fields_of, number_among, row_fields, row_answer}
+use Rattle.header.specs.Inner.Header.{version_answer, name_shaped, names_read, signals_answer}
+use Rattle.rows.specs.Inner.Row.{field_of, fields_of, all_values, row_fields, row_answer}
 use Rattle.reader.specs.Reading.{refused_file}
 use Rattle.reader.specs.Inner.File.{rows_from, rows_answer, body_answer, file_answer, read_answer}
 use Rattle.reader.proofs.Accepted.{accepted_file}
@@ -54,8 +54,8 @@ pub boards_read : ReadAs (text_p ∷ []) (P ∷ []) × ReadAs (text_q ∷ []) (Q
     × ReadAs (text_s ∷ []) (S ∷ []) × ReadAs (text_delayed ∷ []) delayed
     × ReadAs (text_p ∷ text_not_c ∷ []) report
 unfolding read_answer ended lines file_answer version_answer body_answer split signals_answer
-    signals_number name_shaped name_of all_distinct rows_answer rows_from row_answer count fields_of field_of
-    number_among row_fields bound_of judge deep condition_of reads digit_at name_at is_at name_run place
+    names_read name_shaped name_of all_distinct rows_answer rows_from row_answer count fields_of field_of
+    all_values row_fields bound_of judge deep condition_of reads digit_at name_at is_at name_run place
     same_bytes bit_at set_of every some
 boards_read = (
   record { accepted_is = refl; signals = refl; count = refl; rows_are = refl },
@@ -71,8 +71,8 @@ pub more_read : ReadAs (text_nothing ∷ text_p ∷ text_nothing ∷ []) around
     × ReadAs (text_p ∷ text_not_c ∷ text_late ∷ []) three
     × (read_answer (file_of (text_unknown ∷ [])) ≡ refused_file 13 3)
 unfolding read_answer ended lines file_answer version_answer body_answer split signals_answer
-    signals_number name_shaped name_of all_distinct rows_answer rows_from row_answer count fields_of field_of
-    number_among row_fields bound_of judge deep condition_of reads digit_at name_at is_at name_run place
+    names_read name_shaped name_of all_distinct rows_answer rows_from row_answer count fields_of field_of
+    all_values row_fields bound_of judge deep condition_of reads digit_at name_at is_at name_run place
     same_bytes bit_at set_of every some
 more_read = (
   record { accepted_is = refl; signals = refl; count = refl; rows_are = refl },

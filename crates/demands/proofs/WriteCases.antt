@@ -13,8 +13,8 @@ use Rattle.text.specs.Lines.All.{none, and}
 use Rattle.conditions.specs.Condition.{name_of, place}
 use Rattle.conditions.specs.Inner.Judge.{deep, judge}
 use Rattle.conditions.specs.Inner.Reading.{is_at, name_at, digit_at, reads, condition_of}
-use Rattle.header.specs.Inner.Header.{version_answer, name_shaped, signals_number, signals_answer}
-use Rattle.rows.specs.Inner.Row.{field_of, fields_of, number_among, row_fields, row_answer}
+use Rattle.header.specs.Inner.Header.{version_answer, name_shaped, names_read, signals_answer}
+use Rattle.rows.specs.Inner.Row.{field_of, fields_of, all_values, row_fields, row_answer}
 use Rattle.reader.specs.Inner.File.{rows_from, rows_answer, body_answer, file_answer, read_answer}
 use Rattle.writer.specs.File.{literals, condition_text, file_text}
 use Rattle.checker.specs.Inner.Computed.{writing_answer}
@@ -36,8 +36,8 @@ texts_worked =
 -- What `writetable` prints, to the byte.
 pub row_written_lem : writing_answer (one_row row_sent) ≡ one_row row_written
 unfolding writing_answer read_answer ended lines file_answer version_answer body_answer split
-    signals_answer signals_number name_shaped name_of all_distinct rows_answer rows_from row_answer count
-    fields_of field_of number_among row_fields bound_of judge deep condition_of reads digit_at name_at is_at
+    signals_answer names_read name_shaped name_of all_distinct rows_answer rows_from row_answer count
+    fields_of field_of all_values row_fields bound_of judge deep condition_of reads digit_at name_at is_at
     name_run place same_bytes bit_at set_of every some file_text condition_text members literals joined
     decimal digits
 row_written_lem = refl
@@ -45,8 +45,8 @@ row_written_lem = refl
 pub whole_written_lem : (writing_answer (file_of (text_p ∷ text_not_c ∷ [])) ≡ whole_written)
     × (length whole_written ≡ 169)
 unfolding writing_answer read_answer ended lines file_answer version_answer body_answer split
-    signals_answer signals_number name_shaped name_of all_distinct rows_answer rows_from row_answer count
-    fields_of field_of number_among row_fields bound_of judge deep condition_of reads digit_at name_at is_at
+    signals_answer names_read name_shaped name_of all_distinct rows_answer rows_from row_answer count
+    fields_of field_of all_values row_fields bound_of judge deep condition_of reads digit_at name_at is_at
     name_run place same_bytes bit_at set_of every some file_text condition_text members literals joined
     decimal digits
 whole_written_lem = (refl, refl)

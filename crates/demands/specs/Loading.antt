@@ -6,7 +6,7 @@ use Rattle.text.specs.Lines.{ended}
 use Rattle.reader.specs.Grammar.{IsFile}
 use Rattle.reader.specs.Reading.{refused_file}
 use Rattle.reader.specs.Right.{RightReading}
-use Rattle.load.specs.declared.Totals.{Totals}
+use Rattle.load.specs.Figures.{Totals}
 use Rattle.load.specs.Load.{load_of, totals_of, sums_of}
 use Rattle.lines.specs.Line.{refused_line}
 use Rattle.totals.specs.Totals.{totals_lines, sums_line}

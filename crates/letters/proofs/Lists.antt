@@ -4,11 +4,14 @@ use Prim.Native.Nat.{ℕ, zero, suc, ◌+◌, ◌<◌, ◌≤◌}
 use borrow.Author.Tests.{eqb-true, eq-eqb, ne_eqb, leb-true, le-leb, ltb-true, ltb-false}
 use native.Mathlib.Numerals.{add-one}
 use native.Mathlib.Omega.{arith}
-use mathlib.Core.Bool.{Bool, true, false, ◌&&◌, ◌||◌, not, and_assoc, true≢false}
-use mathlib.Core.List.{List, [], ◌∷◌, ◌++◌}
+use mathlib.Core.Bool.{Bool, true, false, ◌&&◌, ◌||◌, not, true≢false}
+use mathlib.Core.List.{List, ◌++◌}
 use mathlib.Core.Logic.{◌⊎◌, inl, inr}
-use mathlib.Core.Path.{◌≡◌, refl, sym}
+use mathlib.Core.Path.{◌≡◌, refl}
 use lib.Dec.{eqb, leb, ltb}
+use lib.Pointwise.{bytes_decides}
+use Rattle.std.proofs.lemmas.List.Folds.{list_all-append}
+use Rattle.std.proofs.lemmas.List.Sums.{AllPass-from_list_all}
 use lib.ListN.{length, get_or, take, drop, replicate, length-take, drop_of_length-le}
 use lib.Seq.{drop-cons}
 use Rattle.letters.specs.Lists.{within, every, same_bytes}
@@ -70,16 +73,11 @@ module _ {A : Type 0} (test : A → Bool) where
   pub every_at : (xs : List A) (i : ℕ) (d : A) → every test xs ≡ true → i < length xs
       → test (get_or xs i d) ≡ true
   unfolding every
-  every_at [] i d e h = absurd (omega arith)
-  every_at (x ∷ xs) zero d e h = and_left (test x) (every test xs) e
-  every_at (x ∷ xs) (suc i) d e h =
-      every_at xs i d (and_right (test x) (every test xs) e) (omega arith)
+  every_at xs i d e h = AllPass-from_list_all test xs e i d h
 
   pub every_append : (xs ys : List A) → every test (xs ++ ys) ≡ (every test xs && every test ys)
   unfolding every
-  every_append [] ys = refl
-  every_append (x ∷ xs) ys = rw (every_append xs ys)
-      (sym (and_assoc (test x) (every test xs) (every test ys)))
+  every_append = list_all-append test
 
   pub every_replicate : (x : A) → test x ≡ true → (k : ℕ) → every test (replicate k x) ≡ true
   unfolding every
@@ -127,18 +125,11 @@ module _ (xs ys : List ℕ) (i : ℕ) where
 -- The test passes at equal lists, and at no others.
 pub same_bytes_refl : (xs : List ℕ) → same_bytes xs xs ≡ true
 unfolding same_bytes
-same_bytes_refl [] = refl
-same_bytes_refl (x ∷ xs) = rw (eq-eqb x x refl, same_bytes_refl xs)
+same_bytes_refl xs = (bytes_decides xs xs).1 refl
 
 pub same_bytes_true : (xs ys : List ℕ) → same_bytes xs ys ≡ true → xs ≡ ys
 unfolding same_bytes
-same_bytes_true [] [] h = refl
-same_bytes_true [] (y ∷ ys) h = absurd (let z : ◌≡◌ {A = ℕ} 0 1 = cc in omega arith)
-same_bytes_true (x ∷ xs) [] h = absurd (let z : ◌≡◌ {A = ℕ} 0 1 = cc in omega arith)
-same_bytes_true (x ∷ xs) (y ∷ ys) h =
-    let head = eqb-true x y (and_left (eqb x y) (same_bytes xs ys) h) in
-    let tail = same_bytes_true xs ys (and_right (eqb x y) (same_bytes xs ys) h) in
-    cc
+same_bytes_true xs ys = (bytes_decides xs ys).0
 
 pub same_bytes_false : (xs ys : List ℕ) → (xs ≡ ys → ⊥) → same_bytes xs ys ≡ false
 same_bytes_false xs ys other = go (same_bytes xs ys) (same_bytes_true xs ys)

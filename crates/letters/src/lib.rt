@@ -111,6 +111,7 @@ pub fn without(set: u64, off: u64) -> u64
 }
 
 // The least letter of a set; `SET_BITS` if it has none.
+// Kept: the contract's `least_in` is `set_bits` at the empty set, and the search goes by it.
 #[tactic(auto, using(crate::proofs::Lowest::zeros_least))]
 pub fn least(set: u64) -> u8
     ensures { result ≡ least_in set }

@@ -7,10 +7,12 @@ use mathlib.Core.Path.{◌≡◌, refl, ap}
 use lib.ListN.{length, length-append}
 use Rattle.letters.specs.Letter.{bit_at, members}
 use Rattle.text.specs.Bounds.{decimal}
-use Rattle.text.specs.Lines.{ended}
+use Rattle.text.specs.Lines.{LF, ended}
 use Rattle.text.proofs.Decimals.{decimal_length}
 use Rattle.text.proofs.Joins.{ended_append}
-use Rattle.lines.specs.Line.{refused_text, signal_values, tick_line, tick_lines}
+use Rattle.put.specs.Inner.Puts.{last_place}
+use Rattle.put.proofs.Pages.{whole_page}
+use Rattle.lines.specs.Line.{refused_line, refused_text, signal_values, tick_line, tick_lines}
 use Rattle.lines.specs.Line.{row_numbers, spaced, spaced_or_dash}
 
 -- A line, and then others; lines, and then others; and a line alone.
@@ -38,6 +40,13 @@ refused_length m n low-m low-n =
     let number = decimal_length 2 m low-m in
     let line = decimal_length 2 n low-n in
     rw (one_length, length-append, length-append, length-append) (omega arith)
+
+pub refused_few : (m n : ℕ) → m < 256 → n < 256
+    → length (refused_line m n ++ LF ∷ []) ≤ last_place
+unfolding ended
+refused_few m n low-m low-n = omega (arith, refused_length m n (omega arith) (omega arith))
+
+pub ruleset refusals = (whole_page, refused_few)
 
 values_length : (n k letter : ℕ) → length (signal_values n k letter) ≡ n
 unfolding signal_values

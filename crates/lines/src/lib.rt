@@ -1,130 +1,106 @@
-// The lines that reports share, put into a lent buffer from a place on: each function answers the
-// next place. specs/Line.antt says what is right, for every value and every lent buffer.
-#![tactic(auto)]
+// The lines that reports share, put on a page. specs/Line.antt says what is right, for every value
+// and every lent buffer.
+#![tactic(auto, using(put::proofs::Pages::pages), unfolding(put::specs::Inner::Page::added))]
 
 ghost use Rattle.std.specs.Prelude.{[], ◌∷◌, ◌++◌, ◌≡◌, length, take};
 ghost use Rattle.text.specs.Bounds.{decimal};
 ghost use Rattle.text.specs.Lines.{LF as lineEnd, ended};
 ghost use Rattle.verdict.specs.Buffer.{written};
-ghost use Rattle.put.specs.Inner.Puts.{Puts};
+ghost use Rattle.put.specs.Inner.Page.{added};
 ghost use Rattle.lines.specs.Line.{refused_line, refused_text, signal_values, tick_line};
-ghost use Rattle.lines.specs.Line.{tick_lines, row_numbers, spaced, spaced_or_dash};
+ghost use Rattle.lines.specs.Line.{tick_lines, row_numbers, spaced_or_dash};
 
+use put::Page;
 use table::Refusal;
 use text::LF;
 
 // A word, a number and the line's end.
-pub fn numbered(out: &mut [u8], at: usize, word: &[u8], n: u16) -> usize
-    ensures { Puts at (word.now ++ decimal n ++ lineEnd ∷ []) out.old result
-        out.new }
+pub fn numbered(page: &mut Page, word: &[u8], n: u16)
+    ensures { page.new ≡ added page.old (word.now ++ decimal n ++ lineEnd ∷ []) }
 {
-    let number = put::word(out, at, word);
-    let end = put::decimal(out, number, n as u32);
-    put::byte(out, end, LF)
+    page.word(word);
+    page.decimal(u32::from(n));
+    page.byte(LF);
 }
 
 // The value of each signal at a letter, `0` or `1`.
-fn signal_values(out: &mut [u8], at: usize, signals: u8, letter: u8) -> usize
-    ensures { Puts at (signal_values signals 0 letter) out.old result
-        out.new }
+#[tactic(auto, using(crate::proofs::Turns::values), unfolding(put::specs::Inner::Page::added))]
+fn signal_values(page: &mut Page, signals: u8, letter: u8)
+    ensures { page.new ≡ added page.old (signal_values signals 0 letter) }
 {
-    let mut next = at;
-    let mut rest = letter;
-    let mut k: u8 = 0;
-    while k < signals {
-        next = put::byte(out, next, b'0' + rest % 2);
-        rest = rest / 2;
-        k += 1;
+    for k in 0..signals {
+        let on = letters::contains(u64::from(letter), k);
+        page.byte(if on { b'1' } else { b'0' });
     }
-    next
 }
 
 // The line of a tick.
-fn tick_line(out: &mut [u8], at: usize, signals: u8, tick: u16, letter: u8) -> usize
-    ensures { Puts at (tick_line signals tick letter ++ lineEnd ∷ []) out.old result
-        out.new }
+fn tick_line(page: &mut Page, signals: u8, tick: u16, letter: u8)
+    ensures { page.new ≡ added page.old (tick_line signals tick letter ++ lineEnd ∷ []) }
 {
-    let number = put::word(out, at, b"tick ");
-    let space = put::decimal(out, number, tick as u32);
-    let first = put::byte(out, space, b' ');
-    let end = signal_values(out, first, signals, letter);
-    put::byte(out, end, LF)
+    page.word(b"tick ");
+    page.decimal(u32::from(tick));
+    page.byte(b' ');
+    signal_values(page, signals, letter);
+    page.byte(LF);
 }
 
 // A line for each of the first `length` letters of the trace.
-pub fn tick_lines(out: &mut [u8], at: usize, signals: u8, trace: &[u8], length: u16) -> usize
-    ensures { Puts at (ended (tick_lines signals 1 (take length trace.now)))
-        out.old result out.new }
+#[tactic(auto, using(crate::proofs::Turns::ticks), unfolding(put::specs::Inner::Page::added, text::specs::Lines::ended, crate::specs::Line::tick_lines))]
+pub fn tick_lines(page: &mut Page, signals: u8, trace: &[u8], length: u16)
+    ensures { page.new ≡ added page.old (ended (tick_lines signals 1 (take length trace.now))) }
 {
-    let mut next = at;
-    let mut tick: u16 = 0;
-    while tick < length {
-        let i = tick as usize;
-        if trace.len() <= i {
-            return next;
-        }
-        tick += 1;
-        next = tick_line(out, next, signals, tick, trace[i]);
+    let used = &trace[..usize::from(length).min(trace.len())];
+    for (i, letter) in used.iter().enumerate() {
+        tick_line(page, signals, i as u16 + 1, *letter);
     }
-    next
 }
 
-// The number of each row in a set, after a space. Bit r is row r + 1.
-fn row_numbers(out: &mut [u8], at: usize, rows: u8, set: u64) -> usize
-    ensures { Puts at (spaced (row_numbers rows 0 set)) out.old result
-        out.new }
+// The number of each row in a set, after a space; or ` -` where there is none. Bit r is row r + 1.
+#[tactic(auto, using(crate::proofs::Turns::numbers), unfolding(put::specs::Inner::Page::added, crate::specs::Line::spaced, crate::specs::Line::spaced_or_dash))]
+fn row_list(page: &mut Page, rows: u8, set: u64)
+    ensures { page.new ≡ added page.old (spaced_or_dash (row_numbers rows 0 set)) }
 {
-    let mut next = at;
-    let mut bits = set;
-    let mut row: u16 = 1;
-    while row <= rows as u16 {
-        if bits % 2 == 1 {
-            next = put::spaced(out, next, row as u32);
+    let mut none = true;
+    for row in 0..rows {
+        if letters::contains(set, row) {
+            page.spaced(u32::from(row) + 1);
+            none = false;
         }
-        bits = bits / 2;
-        row += 1;
     }
-    next
-}
-
-// The same, or ` -` where there is none.
-fn row_list(out: &mut [u8], at: usize, rows: u8, set: u64) -> usize
-    ensures { Puts at (spaced_or_dash (row_numbers rows 0 set)) out.old result
-        out.new }
-{
-    let end = row_numbers(out, at, rows, set);
-    if end == at {
-        return put::word(out, end, b" -");
+    if none {
+        page.word(b" -");
     }
-    end
 }
 
 // A word, the numbers of the rows in a set, and the line's end.
-pub fn row_line(out: &mut [u8], at: usize, word: &[u8], rows: u8, set: u64) -> usize
-    ensures { Puts at (word.now ++ spaced_or_dash (row_numbers rows 0 set)
-        ++ lineEnd ∷ []) out.old result out.new }
+pub fn row_line(page: &mut Page, word: &[u8], rows: u8, set: u64)
+    ensures { page.new ≡ added page.old (word.now ++ spaced_or_dash (row_numbers rows 0 set)
+        ++ lineEnd ∷ []) }
 {
-    let first = put::word(out, at, word);
-    let end = row_list(out, first, rows, set);
-    put::byte(out, end, LF)
+    page.word(word);
+    row_list(page, rows, set);
+    page.byte(LF);
 }
 
 // The line of a refusal.
-pub fn refused(out: &mut [u8], at: usize, refusal: Refusal) -> usize
-    ensures { Puts at (refused_line refusal.number refusal.line ++ lineEnd ∷ [])
-        out.old result out.new }
+pub fn refused(page: &mut Page, refusal: Refusal)
+    ensures { page.new ≡ added page.old (refused_line refusal.number refusal.line ++ lineEnd ∷ []) }
 {
-    let number = put::word(out, at, b"refused ");
-    let word = put::decimal(out, number, refusal.number as u32);
-    numbered(out, word, b" line ", refusal.line as u16)
+    page.word(b"refused ");
+    page.decimal(u32::from(refusal.number));
+    numbered(page, b" line ", u16::from(refusal.line));
 }
 
 // Writes a refused line by itself from the buffer's front, and answers its length. An `out` that is
 // shorter holds as much as it takes; the rest of a longer one is unchanged.
+#[tactic(auto, using(crate::proofs::Lengths::refusals), unfolding(text::specs::Lines::ended))]
 pub fn write_refused(refusal: Refusal, out: &mut [u8]) -> usize
     ensures value { result ≡ length (refused_text refusal.number refusal.line) }
     ensures out_after { out.new
         ≡ written (refused_text refusal.number refusal.line) out.old }
 {
-    refused(out, 0, refusal)
+    let mut page = Page::new(out);
+    refused(&mut page, refusal);
+    page.at
 }

@@ -26,7 +26,7 @@ use Rattle.step.proofs.Rows.{step_broken, tick_length, tick_at}
 use Rattle.step.proofs.RowEvents.{broken_exactly, events_at, trace_events_lem, times_few}
 use Rattle.step.proofs.RowEvents.{trace_sums}
 use Rattle.step.proofs.Systems.{run_at}
-use Rattle.load.specs.declared.Totals.{Totals}
+use Rattle.load.specs.Figures.{Totals}
 use Rattle.load.specs.Load.{times_in, totals_of, no_totals, totals_over}
 use Rattle.load.specs.Further.Balance.{Balanced, AtMost}
 use Rattle.load.specs.Inner.Tally.{with_tick}

@@ -1,5 +1,5 @@
 -- What holds while a load is run, and what it gives. Assumes nothing.
-use Prim.Native.Nat.{ℕ, suc, ◌+◌, ◌-◌, ◌<◌, ◌≤◌}
+use Prim.Native.Nat.{ℕ, ◌+◌, ◌<◌, ◌≤◌}
 use native.Mathlib.Decide.{dec_lt}
 use native.Mathlib.Numerals.{add-one}
 use native.Mathlib.Omega.{arith}
@@ -15,7 +15,7 @@ use Rattle.table.specs.Limits.{most_rows}
 use Rattle.table.specs.Refusal.{refused_at}
 use Rattle.table.specs.Row.{no_row}
 use Rattle.table.specs.Valid.{rows_of, table_valid}
-use Rattle.std.specs.Prelude.{Ok}
+use Rattle.std.specs.Prelude.{Result, Ok, Err}
 use Rattle.table.specs.declared.Row.{Row}
 use Rattle.table.specs.declared.Table.{Table}
 use Rattle.table.proofs.Laws.{table_valid_rows, rows_valid_count}
@@ -36,11 +36,12 @@ use Rattle.pass.specs.Watch.{phases_of, start_watch}
 use Rattle.pass.specs.Answer.{answered, moved_on}
 use Rattle.watcher.specs.Inner.Tables.{table_tick}
 use Rattle.pass.proofs.Records.{phases_watch, phase_at_lem}
-use Rattle.pass.proofs.Starts.{start_valid, start_phase, refused_is}
-use Rattle.load.specs.declared.Totals.{Totals}
+use Rattle.pass.proofs.Starts.{start_valid, start_phase}
+use Rattle.load.specs.declared.Ran.{Ran}
+use Rattle.load.specs.Figures.{Totals}
 use Rattle.load.specs.Load.{next_number, numbers_from, letter_of, load_of, no_totals}
 use Rattle.load.specs.Load.{totals_over}
-use Rattle.load.specs.Load.{longest_run, run_number, not_run, run_answer}
+use Rattle.load.specs.Load.{longest_run, not_run, run_answer}
 use Rattle.load.specs.Inner.Tally.{Room, AllRoom, with_tick, ticked_at, AllTicked}
 use Rattle.load.proofs.Letters.{number_after, load_length, load_snoc, letter_below}
 use Rattle.load.proofs.RowTotals.{totals_snoc, totals_most}
@@ -53,7 +54,6 @@ pub record Running (table : Table) (start ticks number : ℕ) (watch : Watch)
   where
     pub rules : table_valid table ≡ true
     pub few : ticks ≤ longest_run
-    pub low : tick ≤ ticks
     pub number_is : number ≡ number_after start tick
     pub moved : phases_of watch
         ≡ run (table_system table.signals (rows_of table)) (phases_of start_watch)
@@ -73,6 +73,27 @@ lets_by true ticks e = (refl, go (leb ticks longest_run) refl e)
     go false few e = absurd (omega arith)
 lets_by false ticks e = absurd (omega arith)
 
+-- What is said of a run whose table is valid or not, which has few ticks or not: it is taken with
+-- number 0, and refused with any other.
+abbrev judged : Bool → Bool → Result (Unit {0}) ℕ
+judged valid few = cond valid (cond few (Ok tt) (Err 22)) (Err 17)
+
+taken_by : (valid few : Bool) (u : Unit {0}) → judged valid few ≡ Ok u
+    → ◌≡◌ {A = ℕ} (cond valid (cond few 0 22) 17) 0
+taken_by true true u e = refl
+taken_by true false u e = absurd (let z : ◌≡◌ {A = ℕ} 0 1 = cc in omega arith)
+taken_by false few u e = absurd (let z : ◌≡◌ {A = ℕ} 0 1 = cc in omega arith)
+
+refused_by : (valid few : Bool) (done : Ran) (number : ℕ) → judged valid few ≡ Err number
+    → not_run (refused_at number 0)
+    ≡ answered (cond valid (cond few 0 22) 17) done (λ n. not_run (refused_at n 0))
+unfolding answered
+refused_by true true done number e = absurd (let z : ◌≡◌ {A = ℕ} 0 1 = cc in omega arith)
+refused_by true false done number e =
+    ap (λ (n : ℕ). not_run (refused_at n 0)) (let is : ◌≡◌ {A = ℕ} number 22 = cc in is)
+refused_by false few done number e =
+    ap (λ (n : ℕ). not_run (refused_at n 0)) (let is : ◌≡◌ {A = ℕ} number 17 = cc in is)
+
 pub rows_few : (table : Table) → table_valid table ≡ true → length (rows_of table) ≤ most_rows
 rows_few table rules =
     (rows_valid_count table.signals (rows_of table) (table_valid_rows table rules)).1
@@ -87,28 +108,24 @@ module _ (table : Table) (start ticks : ℕ) where
   abbrev X : System
   X = table_system s rows
 
-  pub running_starts : {number : ℕ} → number ≡ run_number table ticks → number ≡ 0
+  pub running_starts : {u : Unit {0}} → judged (table_valid table) (leb ticks longest_run) ≡ Ok u
       → Running table start ticks start start_watch (replicate most_rows no_totals) 0
   unfolding number_after numbers_from run
-  running_starts {number} is none =
-      let passed = lets_by (table_valid table) ticks (sym is ∙ none) in
+  running_starts {u} e =
+      let passed = lets_by (table_valid table) ticks
+      (taken_by (table_valid table) (leb ticks longest_run) u e) in
       record {
         rules = passed.0;
         few = passed.1;
-        low = omega arith;
         number_is = refl;
         moved = refl;
         counted = sym (over_none s rows (rows_few table passed.0));
       }
 
-  pub running_refused : {number : ℕ} → number ≡ run_number table ticks → (number ≡ 0 → ⊥)
+  pub running_refused : {number : ℕ} → judged (table_valid table) (leb ticks longest_run) ≡ Err number
       → not_run (refused_at number 0) ≡ run_answer table start ticks
   unfolding run_answer
-  running_refused {number} is some =
-      let one : number ≡ suc (number - 1) = omega arith in
-      ap (λ (n : ℕ). not_run (refused_at n 0)) is
-      ∙ sym (refused_is _ (λ n. not_run (refused_at n 0)) (run_number table ticks) (number - 1)
-      (sym is ∙ one))
+  running_refused {number} e = refused_by (table_valid table) (leb ticks longest_run) _ number e
 
   module _ {number : ℕ} {watch : Watch} {totals : List Totals} {tick : ℕ}
       (p : Running table start ticks number watch totals tick) where
@@ -137,11 +154,11 @@ module _ (table : Table) (start ticks : ℕ) where
           breaks = omega arith;
         })
 
-    pub running_ends : ticks ≤ tick
+    pub running_ends : ticks ≤ tick → tick ≤ ticks
         → record { outcome = Ok tt; totals = totals } ≡ run_answer table start ticks
     unfolding run_answer answered
-    running_ends h =
-        let all : tick ≡ ticks = omega (arith, p.low) in
+    running_ends high low =
+        let all : tick ≡ ticks = omega arith in
         rw (p.rules, le-leb ticks longest_run p.few)
         (ap (λ (t : List Totals). record { outcome = Ok tt; totals = t })
         (p.counted ∙ ap (λ (k : ℕ). totals_over s rows (load_of s start k)) all))
@@ -223,7 +240,6 @@ module _ (table : Table) (start ticks : ℕ) where
       running_next = record {
         rules = p.rules;
         few = p.few;
-        low = omega arith;
         number_is = changed ∙ ap next_number p.number_is
             ∙ ap (number_after start) (sym (add-one tick));
         moved = after ∙ sym (run_snoc X (phases_of start_watch) w letter)

@@ -21,7 +21,7 @@ use Rattle.table.specs.declared.Table.{Table}
 use Rattle.pass.specs.Answer.{answered}
 use Rattle.pass.proofs.Starts.{number_is, line_is, refused_is}
 use Rattle.load.specs.declared.Ran.{Ran}
-use Rattle.load.specs.declared.Totals.{Totals}
+use Rattle.load.specs.Figures.{Totals}
 use Rattle.load.specs.Load.{numbers_from, load_of, totals_of, no_totals, totals_over, sum_of}
 use Rattle.load.specs.Load.{sums_of, longest_run, run_number, not_run, run_answer}
 use Rattle.load.specs.Further.Balance.{Balanced, SumsBalanced, AtMost}

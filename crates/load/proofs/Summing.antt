@@ -5,13 +5,12 @@ use native.Mathlib.Omega.{arith}
 use mathlib.Core.List.{List, [], ◌∷◌, ◌++◌}
 use mathlib.Core.Path.{◌≡◌, refl, sym, ap, ◌∙◌}
 use lib.ListN.{length, get_or, take}
-use lib.Seq.{take_all, take-suc}
-use Rattle.table.specs.Limits.{most_rows}
-use Rattle.load.specs.declared.Sums.{Sums}
-use Rattle.load.specs.declared.Totals.{Totals}
+use lib.Seq.{take-suc}
+use Rattle.load.specs.Figures.{Sums}
+use Rattle.load.specs.Figures.{Totals}
 use Rattle.load.specs.Load.{no_totals, sum_of, sums_of}
 use Rattle.load.specs.Further.Balance.{Balanced, SumsBalanced, OneMore}
-use Rattle.load.specs.Inner.Tally.{SumRoom, with_row, Grown}
+use Rattle.load.specs.Inner.Tally.{with_row, Grown}
 
 sum_snoc : (part : Totals → ℕ) (all : List Totals) (t : Totals)
     → sum_of part (all ++ (t ∷ [])) ≡ sum_of part all + part t
@@ -41,19 +40,16 @@ pub sums_none : sums_of [] ≡ no_sums
 unfolding sums_of sum_of
 sums_none = refl
 
--- The sums of the first i rows, of so many that are asked for: none is too large.
-pub record Summing (rows : ℕ) (all : List Totals) (sums : Sums) (i : ℕ) : Type 0 where
-  pub low : i ≤ rows
+-- The sums of the first i of some rows: none is too large.
+pub record Summing (all : List Totals) (sums : Sums) (i : ℕ) : Type 0 where
   pub are : sums ≡ sums_of (take i all)
   pub realised : sums.realised ≤ i * 65535
   pub completed : sums.completed ≤ i * 65535
   pub breaks : sums.breaks ≤ i * 65535
   pub pending : sums.pending ≤ i * 65535
 
-pub summing_none : (rows : ℕ) (all : List Totals)
-    → Summing rows all no_sums 0
-summing_none rows all = record {
-  low = omega arith;
+pub summing_none : (all : List Totals) → Summing all no_sums 0
+summing_none all = record {
   are = sym sums_none;
   realised = omega arith;
   completed = omega arith;
@@ -61,38 +57,18 @@ summing_none rows all = record {
   pending = omega arith;
 }
 
-module _ {rows : ℕ} {all : List Totals} {sums : Sums} {i : ℕ} (s : Summing rows all sums i) where
-  pub summing_room : i < most_rows → SumRoom sums
-  summing_room h = record {
-    realised = omega (arith, s.realised);
-    completed = omega (arith, s.completed);
-    breaks = omega (arith, s.breaks);
-    pending = omega (arith, s.pending);
-  }
-
-  pub summing_next : {after : Sums} → i < rows → i < length all
-      → after ≡ with_row sums (get_or all i no_totals) → Grown sums after
-      → Summing rows all after (i + 1)
-  summing_next {after} h k e g = record {
-    low = omega arith;
-    are = e ∙ ap (λ (t : Sums). with_row t (get_or all i no_totals)) s.are
-        ∙ sym (sums_snoc (take i all) (get_or all i no_totals))
-        ∙ ap sums_of (sym (take-suc all i no_totals k)
-        ∙ ap (λ (n : ℕ). take n all) (sym (add-one i)));
-    realised = omega (arith, s.realised, g.realised);
-    completed = omega (arith, s.completed, g.completed);
-    breaks = omega (arith, s.breaks, g.breaks);
-    pending = omega (arith, s.pending, g.pending);
-  }
-
-  -- All rows that are asked for, or all that there are.
-  pub summing_end : rows ≤ i → sums ≡ sums_of (take rows all)
-  summing_end h = s.are
-      ∙ ap (λ (n : ℕ). sums_of (take n all)) (let same : i ≡ rows = omega (arith, s.low) in same)
-
-  pub summing_all : length all ≤ i → sums ≡ sums_of (take rows all)
-  summing_all h =
-      s.are ∙ ap sums_of (take_all i all h ∙ sym (take_all rows all (omega (arith, s.low))))
+pub summing_next : {all : List Totals} {sums after : Sums} {i j : ℕ} {row : Totals}
+    → Summing all sums i → i < length all → row ≡ get_or all i row
+    → after ≡ with_row sums row → Grown sums after → j ≡ i + 1 → Summing all after j
+summing_next {all} {sums} {after} {i} {j} {row} s h is e g more = record {
+  are = e ∙ ap (λ (t : Sums). with_row t row) s.are ∙ sym (sums_snoc (take i all) row)
+      ∙ ap sums_of (ap (λ (t : Totals). take i all ++ (t ∷ [])) is ∙ sym (take-suc all i row h)
+      ∙ ap (λ (n : ℕ). take n all) (sym (more ∙ add-one i)));
+  realised = omega (arith, s.realised, g.realised);
+  completed = omega (arith, s.completed, g.completed);
+  breaks = omega (arith, s.breaks, g.breaks);
+  pending = omega (arith, s.pending, g.pending);
+}
 
 -- Where each of some rows is balanced, so are the sums.
 pub sums_balance : (n : ℕ) (all : List Totals)

@@ -1,4 +1,5 @@
 -- The load.
+pub mod Figures
 pub mod Load
 pub mod Further
 pub mod Inner

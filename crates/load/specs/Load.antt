@@ -14,8 +14,8 @@ use Rattle.step.specs.Events.{trace_events, Event, times_of, is_open}
 use Rattle.step.specs.Tick.{start_phases, row_system}
 use Rattle.pass.specs.Answer.{answered}
 use Rattle.load.specs.declared.Ran.{Ran}
-use Rattle.load.specs.declared.Sums.{Sums}
-use Rattle.load.specs.declared.Totals.{Totals}
+use Rattle.load.specs.Figures.{Sums}
+use Rattle.load.specs.Figures.{Totals}
 
 -- "The load starts from a given 32-bit number; each tick it becomes its product with 1,664,525 plus
 -- 1,013,904,223, modulo 2^32": the number after a tick, and the numbers of so many ticks.

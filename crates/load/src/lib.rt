@@ -16,38 +16,33 @@ use table::{MOST_ROWS, Outcome, Refusal, Table};
 // "A run has at most 65,535 ticks."
 pub const LONGEST_RUN: u32 = 65535;
 
-// The number's factor, what is added to it, and what it is taken modulo.
-const FACTOR: u64 = 1664525;
+// The number's factor, and what is added to it.
+const FACTOR: u32 = 1664525;
 
-const ADDED: u64 = 1013904223;
-
-const NUMBERS: u64 = 4294967296;
+const ADDED: u32 = 1013904223;
 
 // The letter is the number divided by this.
 const PART: u32 = 67108864;
 
-// What a row did: how often its trigger was realised and its action completed, whether it broke,
-// and whether it is open at the end.
-#[derive(Clone, Copy)]
-pub struct Totals {
-    pub realised: u16,
-    pub completed: u16,
-    pub breaks: u16,
-    pub pending: u16,
+// How often triggers were realised and actions completed, and how many rows broke, and are open at
+// the end.
+#[derive(Clone, Copy, Debug, PartialEq, Eq, Default)]
+pub struct Figures<N> {
+    pub realised: N,
+    pub completed: N,
+    pub breaks: N,
+    pub pending: N,
 }
 
-// The same of several rows together.
-#[derive(Clone, Copy)]
-pub struct Sums {
-    pub realised: u32,
-    pub completed: u32,
-    pub breaks: u32,
-    pub pending: u32,
-}
+// What a row did; and the same of several rows together.
+pub type Totals = Figures<u16>;
+
+pub type Sums = Figures<u32>;
 
 // What a run gives: whether it was taken, and the totals of each row, which are 0 if it was
 // refused, and for a row that is not used.
-#[derive(Clone, Copy)]
+// Kept: an outcome beside values, of which theorems speak on refusal too (`refused_zeros`).
+#[derive(Clone, Copy, Debug, PartialEq, Eq)]
 pub struct Ran {
     pub outcome: Outcome,
     pub totals: [Totals; MOST_ROWS],
@@ -58,7 +53,7 @@ pub struct Ran {
 pub fn next_number(number: u32) -> u32
     ensures { result ≡ next_number number }
 {
-    ((number as u64 * FACTOR + ADDED) % NUMBERS) as u32
+    number.wrapping_mul(FACTOR).wrapping_add(ADDED)
 }
 
 // The letter that a number gives where there are so many signals. With six or more it is the
@@ -71,22 +66,13 @@ pub fn letter_of(signals: u8, number: u32) -> u8
 }
 
 // The sums of the first `rows` rows, or of all if there are fewer.
+// Kept: totals and a count, as a run gives totals and its table the count of rows.
 pub fn sum(totals: [Totals; MOST_ROWS], rows: u8) -> Sums
     ensures { result ≡ sums_of (take rows totals) }
 {
-    let mut sums = Sums {
-        realised: 0,
-        completed: 0,
-        breaks: 0,
-        pending: 0,
-    };
-    let mut i: usize = 0;
-    while i < rows as usize {
-        if MOST_ROWS <= i {
-            return sums;
-        }
-        sums = tally::with_row(sums, totals[i]);
-        i += 1;
+    let mut sums = Sums::default();
+    for row in totals.iter().take(usize::from(rows)) {
+        sums = tally::with_row(sums, *row);
     }
     sums
 }
@@ -97,11 +83,12 @@ pub fn refused(refusal: Refusal) -> Ran
 {
     Ran {
         outcome: Err(refusal),
-        totals: [tally::none(); MOST_ROWS],
+        totals: [Totals::default(); MOST_ROWS],
     }
 }
 
 // Whether a run is taken, or the number for which it is refused: 17 comes before 22.
+// Kept: numbers, by which documents, theorems and reports name a refusal.
 fn judge(valid: bool, ticks: u32) -> Result<(), u8>
     ensures { result ≡ cond valid (cond (leb ticks longest_run) (Ok tt) (Err 22)) (Err 17) }
 {
@@ -116,6 +103,7 @@ fn judge(valid: bool, ticks: u32) -> Result<(), u8>
 
 // So many ticks of a load that starts from a number, with all rows waiting. Refused with 17, or
 // with 22 if there are too many ticks.
+#[tactic(auto, using(crate::proofs::Running::running_refused))]
 pub fn run(table: Table, start: u32, ticks: u32) -> Ran
     ensures { result ≡ run_answer table start ticks }
 {
@@ -124,20 +112,13 @@ pub fn run(table: Table, start: u32, ticks: u32) -> Ran
     }
     let mut number = start;
     let mut watch = watcher::start();
-    let mut totals = [tally::none(); MOST_ROWS];
-    let mut tick: u32 = 0;
-    while tick < ticks {
-        let next = next_number(number);
-        let letter = letter_of(table.signals, next);
+    let mut totals = [Totals::default(); MOST_ROWS];
+    for _ in 0..ticks {
+        number = next_number(number);
+        let letter = letter_of(table.signals, number);
         let ticked = watcher::tick_table(table, watch, letter);
-        let after = ticked.watch;
-        let reply = ticked.reply;
-        let events = reply.events;
-        let more = tally::with_ticks(totals, events, after);
-        number = next;
-        watch = after;
-        totals = more;
-        tick += 1;
+        watch = ticked.watch;
+        tally::add(&mut totals, ticked.reply.events, watch);
     }
     Ran {
         outcome: Ok(()),

@@ -3,7 +3,6 @@
 // out. What fails is said on standard error, and nothing is printed then.
 #![tactic(auto)]
 
-use input::Input;
 use std::io;
 
 // No text is longer: `most_totals` of the crate checker.
@@ -21,7 +20,7 @@ fn print_totals(rt: &(impl Print + Eprint), file: &[u8]) -> io::Result<()> {
 fn main(rt: HostRuntime) -> io::Result<()> {
     let mut file = input::buffer();
     match input::read_all(&mut rt.stdin(), &mut file) {
-        Input::Read(length) => print_totals(&rt, &file[..length]),
-        Input::Failed => eprintln!(rt; "loadtable: standard input cannot be read"),
+        Ok(length) => print_totals(&rt, &file[..length]),
+        Err(_) => eprintln!(rt; "loadtable: standard input cannot be read"),
     }
 }

@@ -26,16 +26,14 @@ use Rattle.step.specs.Tick.{tick}
 use Rattle.step.specs.declared.Events.{Events}
 use Rattle.step.specs.Events.{no_events, row_events, tick_events}
 use Rattle.step.specs.Valid.{phase_valid, is_waiting, phases_valid}
-use Rattle.pass.specs.declared.Slot.{Slot}
 use Rattle.pass.specs.declared.Watch.{Watch}
 use Rattle.pass.specs.declared.Ticked.{Ticked}
 use Rattle.pass.specs.declared.Pass.{Pass}
-use Rattle.pass.specs.Watch.{slot_of, phases_of}
+use Rattle.pass.specs.Watch.{phases_of}
 use Rattle.pass.specs.Answer.{first_number, answered, nothing_happened, refused_with}
 use Rattle.pass.specs.Answer.{moved_on, tick_answer}
 use Rattle.pass.specs.Inner.Pass.{phase_at, begun, moved, row_taken, pass_over, passed}
 use Rattle.pass.specs.Inner.Pass.{finished}
-use Rattle.pass.proofs.Records.{slots_phases, phases_length}
 
 -- A loop's turn at row i, and its end.
 pub pass_next : (rows : List Row) (i : ℕ) (pass : Pass) → i < length rows
@@ -93,23 +91,20 @@ rules_down [] i pass h = h
 rules_down (row ∷ rows) i pass h = rules_down rows (i + 1) (row_taken pass i row)
     (taken_down pass i row h)
 
-abbrev phases_in : List Slot → List Phase
-phases_in slots = map (λ (slot : Slot). slot.phase) slots
+-- Nothing has happened yet to the rows of these phases.
+abbrev none : List Phase → List Events
+none phases = map (λ _. no_events) phases
 
--- Nothing has happened yet to the rows of these slots.
-abbrev none : List Slot → List Events
-none slots = map (λ _. no_events) (phases_in slots)
-
--- What a pass has found after some rows, whose slots stand at the front of `ahead`, after those of
+-- What a pass has found after some rows, whose phases stand at the front of `ahead`, after those of
 -- `passed`, and whose events stand after those of `before`.
-record Found (rows : List Row) (pass : Pass) (passed ahead : List Slot) (before : List Events)
+record Found (rows : List Row) (pass : Pass) (passed ahead : List Phase) (before : List Events)
     (done : Pass) : Type 0 where
   signals : done.signals ≡ pass.signals
   letter : done.letter ≡ pass.letter
   rules : done.rules ≡ (pass.rules && every (row_valid pass.signals) rows)
-  phases : done.phases ≡ (pass.phases && phases_valid rows (take (length rows) (phases_in ahead)))
-  slots : done.watch.slots ≡ passed ++ map slot_of (tick rows pass.letter (phases_in ahead))
-  events : done.events ≡ before ++ tick_events rows pass.letter (phases_in ahead)
+  phases : done.phases ≡ (pass.phases && phases_valid rows (take (length rows) ahead))
+  slots : done.watch.slots ≡ passed ++ tick rows pass.letter ahead
+  events : done.events ≡ before ++ tick_events rows pass.letter ahead
 
 -- One more place of a list is filled.
 filled : {A : Type 0} (before ahead : List A) (old new : A) {list : List A} (i : ℕ)
@@ -120,14 +115,13 @@ filled before ahead old new i e n =
     ∙ sym (append_snoc before new ahead)
 
 -- The phase that row i has.
-taken_phase : (pass : Pass) (passed ahead : List Slot) (slot : Slot) (i : ℕ)
-    → pass.watch.slots ≡ passed ++ slot ∷ ahead → length passed ≡ i
-    → phase_at pass.watch i ≡ slot.phase
-taken_phase pass passed ahead slot i e n =
-    ap (λ (l : List Slot). (get_or l i (slot_of Waiting)).phase) e
-    ∙ ap (λ (s : Slot). s.phase) (get_or_at passed slot ahead (slot_of Waiting) i n)
+taken_phase : (pass : Pass) (passed ahead : List Phase) (phase : Phase) (i : ℕ)
+    → pass.watch.slots ≡ passed ++ phase ∷ ahead → length passed ≡ i
+    → phase_at pass.watch i ≡ phase
+taken_phase pass passed ahead phase i e n =
+    ap (λ (l : List Phase). get_or l i Waiting) e ∙ get_or_at passed phase ahead Waiting i n
 
-pass_finds : (rows : List Row) (i : ℕ) (pass : Pass) (passed ahead : List Slot)
+pass_finds : (rows : List Row) (i : ℕ) (pass : Pass) (passed ahead : List Phase)
     (before : List Events)
     → pass.watch.slots ≡ passed ++ ahead → pass.events ≡ before ++ none ahead
     → length passed ≡ i → length before ≡ i → i + length ahead ≡ most_rows
@@ -139,19 +133,19 @@ pass_finds [] i pass passed ahead before e f n k m h = record {
   letter = refl;
   rules = sym (and-true pass.rules);
   phases = sym (and-true pass.phases);
-  slots = e ∙ ap (λ (l : List Slot). passed ++ l) (sym (slots_phases ahead));
+  slots = e;
   events = f;
 }
 pass_finds (row ∷ rows) i pass passed [] before e f n k m h = absurd (omega arith)
-pass_finds (row ∷ rows) i pass passed (slot ∷ ahead) before e f n k m h =
+pass_finds (row ∷ rows) i pass passed (phase ∷ ahead) before e f n k m h =
     let next = taken pass i row in
-    let was = taken_phase pass passed ahead slot i e n in
-    let moved = slot_of (step_row row pass.letter slot.phase) in
-    let happened = row_events row pass.letter slot.phase in
+    let was = taken_phase pass passed ahead phase i e n in
+    let moved = step_row row pass.letter phase in
+    let happened = row_events row pass.letter phase in
     let rest = pass_finds rows (i + 1) next (passed ++ (moved ∷ [])) ahead
     (before ++ (happened ∷ []))
-    (ap (λ (p : Phase). set pass.watch.slots i (slot_of (step_row row pass.letter p))) was
-    ∙ filled passed ahead slot moved i e n)
+    (ap (λ (p : Phase). set pass.watch.slots i (step_row row pass.letter p)) was
+    ∙ filled passed ahead phase moved i e n)
     (ap (λ (p : Phase). set pass.events i (row_events row pass.letter p)) was
     ∙ filled before (none ahead) no_events happened i f k)
     (length-append passed (moved ∷ []) ∙ omega arith)
@@ -163,13 +157,13 @@ pass_finds (row ∷ rows) i pass passed (slot ∷ ahead) before e f n k m h =
           (every (row_valid pass.signals) rows);
       phases = rest.phases
           ∙ and_assoc pass.phases (phase_valid row (phase_at pass.watch i))
-          (phases_valid rows (take (length rows) (phases_in ahead)))
+          (phases_valid rows (take (length rows) ahead))
           ∙ ap (λ (p : Phase). pass.phases &&
-          (phase_valid row p && phases_valid rows (take (length rows) (phases_in ahead)))) was;
+          (phase_valid row p && phases_valid rows (take (length rows) ahead))) was;
       slots = rest.slots ∙ append_snoc passed moved
-          (map slot_of (tick rows pass.letter (phases_in ahead)));
+          (tick rows pass.letter ahead);
       events = rest.events ∙ append_snoc before happened
-          (tick_events rows pass.letter (phases_in ahead));
+          (tick_events rows pass.letter ahead);
     })
 
 -- Number 18 over all phases: those of the rows, and those beyond them.
@@ -204,12 +198,12 @@ unfolding answered
 rules_refused a b c d x y watch = refl
 
 -- Before the first row nothing has happened.
-nothing_yet : (slots : List Slot) → length slots ≡ most_rows → nothing_happened ≡ none slots
+nothing_yet : (slots : List Phase) → length slots ≡ most_rows → nothing_happened ≡ none slots
 nothing_yet slots e = ap (λ (k : ℕ). replicate k no_events) (sym e) ∙ go slots
   where
-    go : (l : List Slot) → replicate (length l) no_events ≡ none l
+    go : (l : List Phase) → replicate (length l) no_events ≡ none l
     go [] = refl
-    go (slot ∷ l) = ap (λ (m : List Events). no_events ∷ m) (go l)
+    go (phase ∷ l) = ap (λ (m : List Events). no_events ∷ m) (go l)
 
 module _ (s : ℕ) (rows : List Row) (watch : Watch) (letter : ℕ)
     (full : length watch.slots ≡ most_rows)
@@ -228,9 +222,9 @@ module _ (s : ℕ) (rows : List Row) (watch : Watch) (letter : ℕ)
         (letter_valid s letter) found.rules
         (found.phases ∙ and_comm (every is_waiting (drop (length rows) (phases_of watch)))
         (phases_valid rows (take (length rows) (phases_of watch)))
-        ∙ sym (fits_parts rows (phases_of watch) (rw phases_length (omega arith))))
+        ∙ sym (fits_parts rows (phases_of watch) (omega arith)))
         (ap₂ letter_valid found.signals found.letter)
-        (ap₂ (λ (l : List Slot) (e : List Events). record {
+        (ap₂ (λ (l : List Phase) (e : List Events). record {
           reply = record { outcome = Ok tt; events = e };
           watch = record { slots = l };
         }) found.slots found.events)

@@ -1,19 +1,15 @@
 -- "The watcher's state on the machine is one small record": the phases of `most_rows` rows.
-use Rattle.std.specs.Prelude.{List, map, replicate}
+use Rattle.std.specs.Prelude.{List, replicate}
 use Rattle.table.specs.Limits.{most_rows}
 use Rattle.step.specs.declared.Phase.{Phase}
 use Rattle.step.specs.declared.Phase.TheVariants.{Waiting}
-use Rattle.pass.specs.declared.Slot.{Slot}
 use Rattle.pass.specs.declared.Watch.{Watch}
 
-abbrev pub slot_of : Phase → Slot
-slot_of phase = record { phase = phase }
-
 abbrev pub phases_of : Watch → List Phase
-phases_of watch = map (λ (slot : Slot). slot.phase) watch.slots
+phases_of watch = watch.slots
 
 abbrev pub watch_of : List Phase → Watch
-watch_of phases = record { slots = map slot_of phases }
+watch_of phases = record { slots = phases }
 
 -- "All start waiting."
 abbrev pub start_watch : Watch

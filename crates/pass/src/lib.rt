@@ -16,20 +16,15 @@ ghost use Rattle.pass.specs.Inner.Pass.{begun, row_taken, pass_over, finished};
 use step::{Events, Phase};
 use table::{MOST_ROWS, Outcome, Refusal, Row};
 
-// A row's place in the record.
-#[derive(Clone, Copy, Debug, PartialEq, Eq)]
-pub struct Slot {
-    pub phase: Phase,
-}
-
 // The watcher's state: the phase of each row, in file order. An unused row is waiting.
 #[derive(Clone, Copy, Debug, PartialEq, Eq)]
 pub struct Watch {
-    pub slots: [Slot; MOST_ROWS],
+    pub slots: [Phase; MOST_ROWS],
 }
 
 // What a tick says: whether it was taken, and what happened to each row, which is nothing if it was
 // refused.
+// Kept: an outcome beside values, of which theorems speak on refusal too (`refused_none`).
 #[derive(Clone, Copy, Debug, PartialEq, Eq)]
 pub struct Reply {
     pub outcome: Outcome,
@@ -56,6 +51,7 @@ pub struct Pass {
 }
 
 // A refusal with a number and no line: the state is the one that was passed.
+// Kept: numbers, by which documents, theorems and reports name a refusal.
 pub fn refused(number: u8, watch: Watch) -> Ticked
     ensures { result ≡ refused_with watch number }
 {
@@ -68,6 +64,7 @@ pub fn refused(number: u8, watch: Watch) -> Ticked
 }
 
 // Whether all rows from place n on wait.
+#[tactic(auto, unfolding(letters::specs::Lists::every))]
 fn rest_waiting(watch: Watch, n: usize) -> bool
     ensures { result ≡ every is_waiting (drop n (phases_of watch)) }
 {
@@ -75,11 +72,12 @@ fn rest_waiting(watch: Watch, n: usize) -> bool
         .slots
         .iter()
         .skip(n)
-        .all(|slot| phases::is_waiting(slot.phase))
+        .all(|phase| phases::is_waiting(*phase))
 }
 
 impl Pass {
     // Before the first of n rows: what the counts and the unused rows say.
+    // Kept: signals, state and letter apart, as the watcher's calls are lent them (document 01).
     #[tactic(auto, unfolding(crate::specs::Inner::Pass::begun))]
     pub fn begin(signals: u8, n: usize, watch: Watch, letter: u8) -> Pass
         ensures { result ≡ begun signals n watch letter }
@@ -102,11 +100,11 @@ impl Pass {
         if MOST_ROWS <= i {
             return self;
         }
-        let phase = self.watch.slots[i].phase;
+        let phase = self.watch.slots[i];
         let stepped = step::step_row(row, self.letter, phase);
         self.rules &= table::rows::row_valid(self.signals, row);
         self.phases &= phases::phase_valid(row, phase);
-        self.watch.slots[i].phase = stepped.phase;
+        self.watch.slots[i] = stepped.phase;
         self.events[i] = stepped.events;
         self
     }

@@ -18,57 +18,51 @@ pub const ACTION_CODES: u8 = 2 * MOST_TICKS;
 pub const BROKEN_CODE: u8 = 255;
 
 // A phase's code. A phase that number 18 lets by has one of at most `BROKEN_CODE`.
+// Kept: `code` and `phase_of`, not `From`: docs/CONFORMANCE.md and the theorems name them.
+#[tactic(auto, unfolding(step::specs::Phase::code_of))]
 pub fn code(phase: Phase) -> u16
     ensures { result ≡ code_of phase }
 {
     match phase {
         Phase::Waiting => 0,
-        Phase::Trigger(t) => t as u16,
-        Phase::Delay(d) => DELAY_CODES as u16 + d as u16,
-        Phase::Action(a) => ACTION_CODES as u16 + a as u16,
-        Phase::Broken => BROKEN_CODE as u16,
+        Phase::Trigger(t) => u16::from(t),
+        Phase::Delay(d) => u16::from(DELAY_CODES) + u16::from(d),
+        Phase::Action(a) => u16::from(ACTION_CODES) + u16::from(a),
+        Phase::Broken => u16::from(BROKEN_CODE),
     }
 }
 
 // The phase of a code. Some codes below `BROKEN_CODE` are of actions too long for any row.
+#[tactic(auto, unfolding(step::specs::Further::Codes::phase_of))]
 pub fn phase_of(code: u8) -> Phase
     ensures { result ≡ phase_of code }
 {
-    if code == 0 {
-        Phase::Waiting
-    } else if code <= DELAY_CODES {
-        Phase::Trigger(code)
-    } else if code <= ACTION_CODES {
-        Phase::Delay(code - DELAY_CODES)
-    } else if code < BROKEN_CODE {
-        Phase::Action(code - ACTION_CODES)
-    } else {
-        Phase::Broken
+    match code {
+        0 => Phase::Waiting,
+        1..=DELAY_CODES => Phase::Trigger(code),
+        ..=ACTION_CODES => Phase::Delay(code - DELAY_CODES),
+        ..BROKEN_CODE => Phase::Action(code - ACTION_CODES),
+        BROKEN_CODE => Phase::Broken,
     }
 }
 
 // Whether number 18 lets a row's phase by.
+#[tactic(auto, unfolding(step::specs::Valid::phase_valid))]
 pub fn phase_valid(row: Row, phase: Phase) -> bool
     ensures { result ≡ phase_valid row phase }
 {
     match phase {
-        Phase::Waiting => true,
-        Phase::Trigger(t) => letters::within(1, row.tmax as usize, t as usize),
-        Phase::Delay(d) => letters::within(1, row.lmax as usize, d as usize),
-        Phase::Action(a) => letters::within(1, row.amax as usize, a as usize),
-        Phase::Broken => true,
+        Phase::Trigger(t) => (1..=row.tmax).contains(&t),
+        Phase::Delay(d) => (1..=row.lmax).contains(&d),
+        Phase::Action(a) => (1..=row.amax).contains(&a),
+        Phase::Waiting | Phase::Broken => true,
     }
 }
 
 // Whether a phase is waiting.
+#[tactic(auto, unfolding(step::specs::Valid::is_waiting))]
 pub fn is_waiting(phase: Phase) -> bool
     ensures { result ≡ is_waiting phase }
 {
-    match phase {
-        Phase::Waiting => true,
-        Phase::Trigger(_) => false,
-        Phase::Delay(_) => false,
-        Phase::Action(_) => false,
-        Phase::Broken => false,
-    }
+    matches!(phase, Phase::Waiting)
 }

@@ -1,5 +1,2 @@
--- `Puts`: bytes put one after the other. `Lines`: lines. `NumberedLines`: a line for each element
--- of a list.
-pub mod Puts
-pub mod Lines
-pub mod NumberedLines
+-- Bytes put on a page.
+pub mod Pages

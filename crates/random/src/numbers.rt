@@ -10,20 +10,15 @@ pub fn mixed(x: u64) -> u64 {
     turn(turn(turn(turn(x))))
 }
 
-// A number, or 0 if it does not count.
-pub fn only_if(yes: bool, n: u8) -> u8 {
-    if yes { n } else { 0 }
-}
-
 // A number below n, or 0.
 pub fn below(seed: u64, n: u16) -> u16 {
-    let x = ((mixed(seed) >> 16) % 65536) as u16;
-    if n == 0 { 0 } else { x % n }
+    let [_, _, low, high, ..] = mixed(seed).to_le_bytes();
+    u16::from_le_bytes([low, high]).checked_rem(n).unwrap_or(0)
 }
 
 pub fn byte_below(seed: u64, n: u8) -> u8 {
-    let x = ((mixed(seed) >> 24) % 256) as u8;
-    if n == 0 { 0 } else { x % n }
+    let [_, _, _, byte, ..] = mixed(seed).to_le_bytes();
+    byte.checked_rem(n).unwrap_or(0)
 }
 
 // Whether a chance of one in n came up.

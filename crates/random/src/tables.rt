@@ -1,7 +1,8 @@
 // Random tables, by their numbers.
 use crate::numbers::{byte_below, mixed, one_in};
 use crate::spoil::spoil;
-use table::{CONDITIONS, MOST_ROWS, MOST_SIGNALS, NAME_CHARS, Name, Row, Table};
+use std::array;
+use table::{MOST_ROWS, MOST_SIGNALS, Name, Row, Table};
 
 // So many tables are tried.
 pub const TABLES: u64 = 10000;
@@ -48,7 +49,7 @@ fn any_set(seed: u64, signals: u8) -> u64 {
     match kind {
         0 => 0,
         1 => all,
-        2 | 3 | 4 => one & all,
+        2..=4 => one & all,
         5 | 6 => (one & all) ^ all,
         7 | 8 => a & b & all,
         9 | 10 => a & all,
@@ -57,7 +58,7 @@ fn any_set(seed: u64, signals: u8) -> u64 {
 }
 
 // A least and a most bound.
-#[derive(Clone, Copy)]
+#[derive(Clone, Copy, Debug, PartialEq, Eq)]
 struct Range {
     least: u8,
     most: u8,
@@ -67,27 +68,21 @@ fn any_range(seed: u64, scale: u8) -> Range {
     let own = mixed(seed);
     let a = byte_below(own ^ 1, scale);
     let b = byte_below(own ^ 2, scale);
-    if a < b {
-        Range { least: a, most: b }
-    } else {
-        Range { least: b, most: a }
+    Range {
+        least: a.min(b),
+        most: a.max(b),
     }
 }
 
 // A row with bounds below `scale`. In a slow one the trigger's ticks are fixed.
 fn any_row(seed: u64, signals: u8, scale: u8, slow: bool) -> Row {
     let own = mixed(seed);
-    let mut sets = [0u64; CONDITIONS];
-    for i in 0..CONDITIONS {
-        sets[i] = any_set(own ^ (1 + (i as u64)), signals);
-    }
     let t = any_range(own ^ 7, scale);
     let l = any_range(own ^ 8, scale);
     let a = any_range(own ^ 9, scale);
-    let tmin = if slow { t.most } else { t.least };
     Row {
-        sets,
-        tmin,
+        sets: array::from_fn(|i| any_set(own ^ (i as u64).wrapping_add(1), signals)),
+        tmin: if slow { t.most } else { t.least },
         tmax: t.most,
         lmin: l.least,
         lmax: l.most,
@@ -96,46 +91,24 @@ fn any_row(seed: u64, signals: u8, scale: u8, slow: bool) -> Row {
     }
 }
 
-fn no_row() -> Row {
-    Row {
-        sets: [0u64; CONDITIONS],
-        tmin: 0,
-        tmax: 0,
-        lmin: 0,
-        lmax: 0,
-        amin: 0,
-        amax: 0,
-    }
-}
-
-fn no_name() -> Name {
-    Name {
-        chars: [0u8; NAME_CHARS],
-    }
-}
-
 // The names a, b, c and so on.
 fn names(signals: u8) -> [Name; MOST_SIGNALS] {
-    let mut names = [no_name(); MOST_SIGNALS];
-    for i in 0..MOST_SIGNALS {
-        if i < signals as usize {
-            let mut name = no_name();
-            name.chars[0] = b'a' + (i as u8);
-            names[i] = name;
-        }
+    let mut names = [Name::default(); MOST_SIGNALS];
+    for (name, letter) in names.iter_mut().zip(b'a'..=b'z').take(usize::from(signals)) {
+        name.chars[0] = letter;
     }
     names
 }
 
 fn any_rows(seed: u64, signals: u8, count: u8, scale: u8, slow: bool) -> [Row; MOST_ROWS] {
     let own = mixed(seed);
-    let mut rows = [no_row(); MOST_ROWS];
-    for i in 0..MOST_ROWS {
-        if i < count as usize {
-            rows[i] = any_row(own ^ (i as u64), signals, scale, slow);
+    array::from_fn(|i| {
+        if i < usize::from(count) {
+            any_row(own ^ (i as u64), signals, scale, slow)
+        } else {
+            Row::default()
         }
-    }
-    rows
+    })
 }
 
 // The bounds of a table of so many rows are below this.
@@ -146,7 +119,7 @@ fn any_scale(seed: u64, count: u8) -> u8 {
     let large = if count == 1 { 61 } else { 6 };
     let middle = if count <= 2 { 20 } else { 6 };
     let scales = [2, 2, 3, 3, 3, 5, 5, large, middle, middle];
-    scales[(byte_below(seed, 10) % 10) as usize]
+    scales[usize::from(byte_below(seed, 10) % 10)]
 }
 
 // A table with so many signals that number 17 lets by: mostly 1 to 4 rows, now and then more.
@@ -154,13 +127,11 @@ fn table_with(own: u64, signals: u8) -> Table {
     let less = 1 + (own / 3 % 4) as u8;
     let count = if one_in(own ^ 2, 24) { 4 + less } else { less };
     let scale = any_scale(own ^ 3, count);
-    let names = names(signals);
-    let rows = any_rows(own ^ 5, signals, count, scale, one_in(own ^ 4, 2));
     Table {
         signals,
-        names,
+        names: names(signals),
         count,
-        rows,
+        rows: any_rows(own ^ 5, signals, count, scale, one_in(own ^ 4, 2)),
     }
 }
 
@@ -180,7 +151,7 @@ pub fn wide_table(seed: u64) -> Table {
 
 // A table of some number: what else is chosen for it comes from the seed. What is given to a call
 // is the table, or now and then the table with a fault, and then it is not valid.
-#[derive(Clone, Copy)]
+#[derive(Clone, Copy, Debug, PartialEq, Eq)]
 pub struct Case {
     pub seed: u64,
     pub table: Table,

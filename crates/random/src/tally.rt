@@ -1,7 +1,8 @@
 // What is counted, a place for each line that a program prints; and what differs in a table, as a
 // set of bits.
+use crate::tables::{Case, TABLES, any_case};
 use std::io;
-use table::Outcome;
+use table::{Outcome, Refusal};
 
 // No program prints more lines.
 pub const LINES: usize = 32;
@@ -9,60 +10,49 @@ pub const LINES: usize = 32;
 // Counts stop here.
 const MOST: usize = 1_000_000_000;
 
-#[derive(Clone, Copy)]
+// The numbers of a program's lines, in the order in which they are printed.
+#[derive(Clone, Copy, Debug, Default, PartialEq, Eq)]
 pub struct Tally {
     pub lines: [usize; LINES],
 }
 
-pub fn none() -> Tally {
-    Tally {
-        lines: [0usize; LINES],
-    }
-}
-
-fn added(n: usize, many: u32) -> usize {
-    if n < MOST { n + many as usize } else { n }
-}
-
-// So many more in a line.
-pub fn more(tally: Tally, line: usize, many: u32) -> Tally {
-    let mut next = tally;
-    if line < LINES {
-        next.lines[line] = added(next.lines[line], many);
-    }
-    next
-}
-
-// One more in a line, if it counts.
-pub fn one_more_if(tally: Tally, line: usize, yes: bool) -> Tally {
-    more(tally, line, if yes { 1 } else { 0 })
-}
-
-// The larger of a line's number and another.
-pub fn largest(tally: Tally, line: usize, n: usize) -> Tally {
-    let mut next = tally;
-    if line < LINES {
-        if next.lines[line] < n {
-            next.lines[line] = n;
+impl Tally {
+    // So many more in a line.
+    pub fn more<L: Into<usize>>(&mut self, line: L, many: usize) {
+        if let Some(n) = self.lines.get_mut(line.into()) {
+            *n = n.saturating_add(many).min(MOST);
         }
     }
-    next
+
+    // One more in a line, if it counts.
+    pub fn one_more_if<L: Into<usize>>(&mut self, line: L, yes: bool) {
+        self.more(line, usize::from(yes));
+    }
+
+    // The larger of a line's number and another.
+    pub fn largest<L: Into<usize>>(&mut self, line: L, n: usize) {
+        if let Some(most) = self.lines.get_mut(line.into()) {
+            *most = (*most).max(n);
+        }
+    }
+
+    // Prints the lines, each after its words.
+    pub fn print(&self, rt: &impl Print, words: &[&str]) -> io::Result<()> {
+        for (word, n) in words.iter().zip(self.lines.iter()) {
+            println!(rt; "{word}{n}")?;
+        }
+        Ok(())
+    }
 }
 
 // The bit of word n, unless the two are the same.
-pub fn unless(same: bool, n: u8) -> u32 {
-    if same {
-        return 0;
-    }
-    if n < 32 { 1 << n } else { 0 }
+pub fn unless(same: bool, n: u32) -> u32 {
+    if same { 0 } else { 1u32.wrapping_shl(n) }
 }
 
-// Whether a call gave a number: that of its refusal, of which the line is 0, or 0 if it was taken.
-pub fn same_number(outcome: Outcome, number: u8) -> bool {
-    match outcome {
-        Ok(()) => number == 0,
-        Err(refusal) => (refusal.number == number) & (refusal.line == 0),
-    }
+// A call that is refused with a number and no line.
+pub fn refused(number: u8) -> Outcome {
+    Err(Refusal { number, line: 0 })
 }
 
 // What differs, but for a place that was changed to see that it is noticed: then word 0, if it is
@@ -95,10 +85,17 @@ pub fn print_difference(
     println!(rt; "differ in table {number}")
 }
 
-// Prints a line for each word: the word, and its number.
-pub fn print(rt: &impl Print, tally: Tally, words: &[&str]) -> io::Result<()> {
-    for (word, n) in words.iter().zip(tally.lines.iter()) {
-        println!(rt; "{word}{n}")?;
+// Tries all random tables, and prints what was counted, each number after its words.
+pub fn try_all<F: FnMut(Case, &mut Tally) -> io::Result<()>>(
+    rt: &impl Print,
+    words: &[&str],
+    mut attempt: F,
+) -> io::Result<()>
+    requires { F.IsAlwaysCallable attempt }
+{
+    let mut tally = Tally::default();
+    for number in 0..TABLES {
+        attempt(any_case(number), &mut tally)?;
     }
-    Ok(())
+    tally.print(rt, words)
 }

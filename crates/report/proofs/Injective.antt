@@ -15,12 +15,12 @@ use Rattle.text.specs.Bytes.{bytes}
 use Rattle.text.specs.Lines.{LF, count, Free, none, and}
 use Rattle.text.specs.Inner.Cut.{lines}
 use Rattle.text.proofs.Joins.{lines_ended}
-use Rattle.verdict.specs.declared.Found.{Found}
-use Rattle.verdict.specs.declared.Found.TheVariants.{Refused, Sound, Trapped}
+use Rattle.std.specs.Prelude.{Ok, Err}
+use Rattle.verdict.specs.declared.Finding.TheVariants.{Sound, Trapped}
 use Rattle.verdict.specs.declared.RowLists.{RowLists}
 use Rattle.verdict.specs.declared.Summary.{Summary}
 use Rattle.verdict.specs.declared.Trap.{Trap}
-use Rattle.verdict.specs.Found.{Verdict, values_of}
+use Rattle.verdict.specs.Found.{Found, Verdict, values_of}
 use Rattle.lines.specs.Line.{tick_lines, row_numbers}
 use Rattle.lines.proofs.Injective.{numbered_free, refused_free, ticks_free, byte_at}
 use Rattle.lines.proofs.Injective.{numbered_injective, refused_injective, tick_injective}
@@ -46,12 +46,12 @@ module _ (signals : ℕ) where
   report_free : (rows : ℕ) (buffer : List ℕ) (found : Found)
       → Free LF (report_lines rows signals buffer found)
   unfolding report_lines count
-  report_free rows buffer (Refused r) = and refl (and (refused_free r.number r.line) none)
-  report_free rows buffer (Sound summary) =
+  report_free rows buffer (Err r) = and refl (and (refused_free r.number r.line) none)
+  report_free rows buffer (Ok (Sound summary)) =
       let lists = list_lines rows summary.lists in
       and refl (sizes_free rows summary.count (sound_line ∷ lists)
       (and refl (lists_free rows summary.lists)))
-  report_free rows buffer (Trapped summary trap) =
+  report_free rows buffer (Ok (Trapped summary trap)) =
       let w = take trap.length buffer in
       let lost = lost_line trap.lost in
       let lists = list_lines rows summary.lists in
@@ -121,33 +121,33 @@ module _ (signals rows rows' : ℕ) where
       → report_lines rows signals b one ≡ report_lines rows' signals c other
       → SameReported rows rows' one other b c
   unfolding report_lines
-  lines_injective (Refused r) (Refused s) b c p q l k e = record {
-    found = ap Refused (refused_injective r s (head-eq_of_cons-eq (tail-eq_of_cons-eq e)));
+  lines_injective (Err r) (Err s) b c p q l k e = record {
+    found = ap Err (refused_injective r s (head-eq_of_cons-eq (tail-eq_of_cons-eq e)));
     trace = refl;
     size = λ verdict. absurd (verdict refl);
   }
-  lines_injective (Refused r) (Sound n) b c p q l k e = absurd (omega (arith, ap (byte_at 1 1) e))
-  lines_injective (Refused r) (Trapped n t) b c p q l k e =
+  lines_injective (Err r) (Ok (Sound n)) b c p q l k e = absurd (omega (arith, ap (byte_at 1 1) e))
+  lines_injective (Err r) (Ok (Trapped n t)) b c p q l k e =
       absurd (omega (arith, ap (byte_at 1 1) e))
-  lines_injective (Sound m) (Refused s) b c p q l k e = absurd (omega (arith, ap (byte_at 1 1) e))
-  lines_injective (Sound m) (Sound n) b c p q l k e =
+  lines_injective (Ok (Sound m)) (Err s) b c p q l k e = absurd (omega (arith, ap (byte_at 1 1) e))
+  lines_injective (Ok (Sound m)) (Ok (Sound n)) b c p q l k e =
       let sizes = sizes_injective rows rows' m.count n.count
       (sound_line ∷ list_lines rows m.lists) (sound_line ∷ list_lines rows' n.lists)
       (tail-eq_of_cons-eq e) in
       let lists = lists_injective rows rows' m.lists n.lists sizes.0 l.never k.never
       (tail-eq_of_cons-eq sizes.2) in
       record {
-        found = ap Sound (summary_same sizes.1 lists);
+        found = ap (λ (n : Summary). Ok (Sound n)) (summary_same sizes.1 lists);
         trace = refl;
         size = λ verdict. sizes.0;
       }
-  lines_injective (Sound m) (Trapped n t) b c p q l k e =
+  lines_injective (Ok (Sound m)) (Ok (Trapped n t)) b c p q l k e =
       absurd (omega (arith, ap (byte_at 3 8) e))
-  lines_injective (Trapped m s) (Refused r) b c p q l k e =
+  lines_injective (Ok (Trapped m s)) (Err r) b c p q l k e =
       absurd (omega (arith, ap (byte_at 1 1) e))
-  lines_injective (Trapped m s) (Sound n) b c p q l k e =
+  lines_injective (Ok (Trapped m s)) (Ok (Sound n)) b c p q l k e =
       absurd (omega (arith, ap (byte_at 3 8) e))
-  lines_injective (Trapped m s) (Trapped n t) b c p q l k e =
+  lines_injective (Ok (Trapped m s)) (Ok (Trapped n t)) b c p q l k e =
       let v = take s.length b in
       let w = take t.length c in
       let sizes = sizes_injective rows rows' m.count n.count
@@ -159,7 +159,7 @@ module _ (signals rows rows' : ℕ) where
       let lists = lists_injective rows rows' m.lists n.lists sizes.0 l.never k.never
       same.2 in
       record {
-        found = ap₂ Trapped (summary_same sizes.1 lists)
+        found = ap₂ (λ (n : Summary) (t : Trap). Ok (Trapped n t)) (summary_same sizes.1 lists)
             (trap_injective s t b c p.whole q.whole (same.0, same.1));
         trace = same.0;
         size = λ verdict. sizes.0;

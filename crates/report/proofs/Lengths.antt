@@ -7,10 +7,12 @@ use lib.ListN.{length, take, length-take}
 use Rattle.text.specs.Bytes.{bytes}
 use Rattle.text.specs.Bounds.{decimal}
 use Rattle.text.specs.Lines.{ended}
-use Rattle.verdict.specs.declared.Found.{Found}
-use Rattle.verdict.specs.declared.Found.TheVariants.{Refused, Sound, Trapped}
+use Rattle.std.specs.Prelude.{Ok, Err}
+use Rattle.verdict.specs.declared.Finding.TheVariants.{Sound, Trapped}
 use Rattle.verdict.specs.declared.Trap.{Trap}
-use Rattle.verdict.specs.Found.{Values, values_of}
+use Rattle.verdict.specs.Found.{Found, Values, values_of}
+use Rattle.put.specs.Inner.Puts.{last_place}
+use Rattle.put.proofs.Pages.{whole_page}
 use Rattle.lines.specs.Line.{refused_line, tick_lines}
 use Rattle.lines.proofs.Lengths.{more_length, both_length, numbered_length, refused_length}
 use Rattle.lines.proofs.Lengths.{ticks_length, row_line_length}
@@ -54,10 +56,10 @@ module _ (rows signals ticks k most : ℕ) (buffer : List ℕ) (low : ticks < 10
   pub report_length : (found : Found) → FewDigits rows ticks (values_of found)
       → length (report_bytes rows signals buffer found) ≤ ticks * most + rows * 4 + 100
   unfolding report_lines
-  report_length (Refused r) few =
+  report_length (Err r) few =
       let line = refused_length r.number r.line few.number few.line in
       omega (arith, line, more_length heading (refused_line r.number r.line ∷ []))
-  report_length (Sound summary) few =
+  report_length (Ok (Sound summary)) few =
       let sizes = size_lines rows summary.count in
       let lists = list_lines rows summary.lists in
       let size = size_length rows summary.count few.rules few.count in
@@ -70,7 +72,7 @@ module _ (rows signals ticks k most : ℕ) (buffer : List ℕ) (low : ticks < 10
         both_length sizes (sound_line ∷ lists),
         more_length sound_line lists,
       )
-  report_length (Trapped summary trap) few =
+  report_length (Ok (Trapped summary trap)) few =
       let sizes = size_lines rows summary.count in
       let lists = list_lines rows summary.lists in
       let size = size_length rows summary.count few.rules few.count in
@@ -87,3 +89,16 @@ module _ (rows signals ticks k most : ℕ) (buffer : List ℕ) (low : ticks < 10
         both_length sizes (trapped_line ∷ rest),
         more_length trapped_line rest,
       )
+
+-- Every report that can be asked for has far fewer bytes than there are places.
+pub report_short : (rows signals : ℕ) (trace : List ℕ) (found : Found) → signals < 256
+    → FewDigits rows 65535 (values_of found)
+    → length (report_bytes rows signals trace found) ≤ last_place
+report_short rows signals trace found low few =
+    omega (
+      arith,
+      few.rules,
+      report_length rows signals 65535 4 267 trace (omega arith) (omega arith) found few,
+    )
+
+pub ruleset whole_report = (whole_page, report_short)

@@ -3,8 +3,9 @@ use Rattle.std.specs.Prelude.{ℕ, List, [], ◌∷◌, ◌++◌, take}
 use Rattle.text.specs.Bounds.{decimal}
 use Rattle.text.specs.Bytes.{bytes}
 use Rattle.text.specs.Lines.{ended}
-use Rattle.verdict.specs.declared.Found.{Found}
-use Rattle.verdict.specs.declared.Found.TheVariants.{Refused, Sound, Trapped}
+use Rattle.verdict.specs.Found.{Found}
+use Rattle.std.specs.Prelude.{Ok, Err}
+use Rattle.verdict.specs.declared.Finding.TheVariants.{Sound, Trapped}
 use Rattle.verdict.specs.declared.RowLists.{RowLists}
 use Rattle.verdict.specs.declared.Trap.{Trap}
 use Rattle.lines.specs.Line.{refused_line, tick_lines, row_numbers, spaced_or_dash}
@@ -45,10 +46,10 @@ list_lines rows lists = never_line rows lists.never ∷ []
 -- What is found of a table with so many rows and signals. "A refused one prints the first line and
 -- `refused 13 line 3`, with its own number and line."
 unfoldable pub report_lines : ℕ → ℕ → List ℕ → Found → List (List ℕ)
-report_lines rows signals buffer (Refused r) = heading ∷ refused_line r.number r.line ∷ []
-report_lines rows signals buffer (Sound summary) =
+report_lines rows signals buffer (Err r) = heading ∷ refused_line r.number r.line ∷ []
+report_lines rows signals buffer (Ok (Sound summary)) =
     heading ∷ size_lines rows summary.count ++ sound_line ∷ list_lines rows summary.lists
-report_lines rows signals buffer (Trapped summary trap) =
+report_lines rows signals buffer (Ok (Trapped summary trap)) =
     heading ∷ size_lines rows summary.count ++ trapped_line ∷ trap_lines signals buffer trap
     ++ list_lines rows summary.lists
 

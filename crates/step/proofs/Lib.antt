@@ -1,5 +1,4 @@
--- `Checks` serves the functions' proofs; all others are laws of the step rules.
-pub mod Checks
+-- Laws of the step rules.
 pub mod Codes
 pub mod States
 pub mod Rows

@@ -24,7 +24,7 @@ pub enum Phase {
 
 // What can happen to a row at a tick: its trigger starts, is realised or is aborted; its action
 // starts (`acting`) or is completed; the row becomes broken.
-#[derive(Clone, Copy, Debug, PartialEq, Eq)]
+#[derive(Clone, Copy, Debug, Default, PartialEq, Eq)]
 pub struct Events {
     pub started: bool,
     pub realised: bool,
@@ -54,31 +54,20 @@ pub enum Check {
 fn check_of(end: bool, hold: bool, least: u8, most: u8, t: u8) -> Check
     ensures { result ≡ check_of end hold least most t }
 {
-    if end {
-        if least <= t {
-            return Check::Done;
-        }
+    if end && least <= t {
+        Check::Done
+    } else if hold && t < most {
+        Check::Continue(t + 1)
+    } else {
+        Check::Fail
     }
-    if hold {
-        if t < most {
-            return Check::Continue(t + 1);
-        }
-    }
-    Check::Fail
 }
 
 // Nothing happens.
 pub fn no_events() -> Events
     ensures { result ≡ no_events }
 {
-    Events {
-        started: false,
-        realised: false,
-        aborted: false,
-        acting: false,
-        completed: false,
-        broken: false,
-    }
+    Events::default()
 }
 
 // Nothing happens but that the row is in a phase then.
@@ -116,6 +105,8 @@ fn breaks(now: bool) -> Stepped
     stepped
 }
 
+// Kept: row and letter apart, here and below: so does each definition of specs/Step.antt take them.
+#[tactic(auto, unfolding(crate::specs::Step::action_check, crate::specs::Events::action_events))]
 fn action_check(row: Row, letter: u8, a: u8) -> Stepped
     ensures { result ≡ stepped_to (action_check row letter a) (action_events row letter a) }
 {
@@ -138,6 +129,7 @@ fn action_start(row: Row, letter: u8) -> Stepped
     stepped
 }
 
+#[tactic(auto, unfolding(crate::specs::Step::delay_check, crate::specs::Events::delay_events))]
 fn delay_check(row: Row, letter: u8, d: u8) -> Stepped
     ensures { result ≡ stepped_to (delay_check row letter d) (delay_events row letter d) }
 {
@@ -160,6 +152,7 @@ fn delay_start(row: Row, letter: u8) -> Stepped
 }
 
 // The trigger check; `lapsed` is what a trigger that is aborted makes of the letter.
+#[tactic(auto, unfolding(crate::specs::Step::trigger_check, crate::specs::Events::trigger_events))]
 fn trigger_check(row: Row, letter: u8, t: u8, lapsed: Stepped) -> Stepped
     ensures { result ≡ stepped_to (trigger_check row letter t lapsed.phase)
         (trigger_events row letter t lapsed.events) }
@@ -175,6 +168,7 @@ fn trigger_check(row: Row, letter: u8, t: u8, lapsed: Stepped) -> Stepped
 
 // What one letter does to a row that waits: its trigger starts if TSE holds. If that is aborted at
 // once, the row waits on.
+#[tactic(auto, unfolding(crate::specs::Step::step_row, crate::specs::Step::start_check, crate::specs::Events::row_events, crate::specs::Events::start_events))]
 fn start_check(row: Row, letter: u8) -> Stepped
     ensures { result ≡ stepped row letter Waiting }
 {
@@ -188,6 +182,7 @@ fn start_check(row: Row, letter: u8) -> Stepped
 
 // What one letter does to a row in a phase, for any row, letter and phase. To a trigger that it
 // aborts it does what it does to a row that waits.
+#[tactic(auto, unfolding(crate::specs::Step::step_row, crate::specs::Events::row_events))]
 pub fn step_row(row: Row, letter: u8, phase: Phase) -> Stepped
     ensures { result ≡ stepped row letter phase }
 {

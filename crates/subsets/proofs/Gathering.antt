@@ -19,7 +19,7 @@ use Rattle.table.specs.declared.Row.{Row}
 use Rattle.table.specs.declared.Table.{Table}
 
 -- The first rows, with more asked for than there are.
-take_used : (all : List Row) (most count : ℕ) → length all ≡ most
+pub take_used : (all : List Row) (most count : ℕ) → length all ≡ most
     → take (min count most) all ≡ take count all
 take_used all most count long = go (dec_lt count most)
   where
@@ -33,44 +33,29 @@ take_used all most count long = go (dec_lt count most)
 abbrev pub in_front : List Row → ℕ → List Row
 in_front front n = front ++ replicate n zero_row
 
-module _ (set : ℕ) (all : List Row) (last : ℕ) where
+module _ (set : ℕ) (all : List Row) where
   -- The first i rows are looked at.
   pub record Gathered (rows : List Row) (n i : ℕ) : Type 0 where
-    -- there are places for all, and no more rows than places
-    pub places : length all ≡ most_rows
-    pub few : last ≤ most_rows
-    pub past : i ≤ last
-    -- n of them are in the set
+    -- there are no more rows than places
+    pub few : length all ≤ most_rows
+    -- n of those looked at are in the set
     pub low : n ≤ i
     pub count : length (picked set (take i all)) ≡ n
     -- and these stand in front
     pub front : rows ≡ in_front (picked set (take i all)) (most_rows - n)
 
-  pub gathered_none : length all ≡ most_rows → last ≤ most_rows
-      → Gathered (replicate most_rows zero_row) 0 0
+  pub gathered_none : length all ≤ most_rows → Gathered (replicate most_rows zero_row) 0 0
   unfolding picked_from
-  gathered_none places few = record {
-    places = places;
-    few = few;
-    past = omega arith;
-    low = omega arith;
-    count = refl;
-    front = refl;
-  }
+  gathered_none few = record { few = few; low = omega arith; count = refl; front = refl }
 
-  module _ {rows : List Row} {n i : ℕ} (g : Gathered rows n i) (left : i < last) where
-    inside : i < length all
-    inside = omega (arith, g.places, g.few)
-
+  module _ {rows : List Row} {n i : ℕ} (g : Gathered rows n i) (left : i < length all) where
     pub gathered_next : bit_at set i ≡ true
         → Gathered (put rows n (get_or all i no_row)) (n + 1) (i + 1)
     gathered_next e =
-        let more = picked_next set no_row all i inside e in
+        let more = picked_next set no_row all i left e in
         let free : most_rows - n ≡ suc (most_rows - (n + 1)) = omega (arith, g.few, g.low) in
         record {
-          places = g.places;
           few = g.few;
-          past = omega arith;
           low = omega (arith, g.low);
           count = rw (more, length-append) (omega (arith, g.count));
           front = rw (g.front, more, free, append_snoc)
@@ -79,26 +64,21 @@ module _ (set : ℕ) (all : List Row) (last : ℕ) where
 
     pub gathered_skip : bit_at set i ≡ false → Gathered rows n (i + 1)
     gathered_skip e =
-        let same = picked_skip set no_row all i inside e in
+        let same = picked_skip set no_row all i left e in
         record {
-          places = g.places;
           few = g.few;
-          past = omega arith;
           low = omega (arith, g.low);
           count = rw same g.count;
           front = rw same g.front;
         }
 
-  -- When all are gathered, they are the table of the set's rows.
-  pub gathered_all : {rows : List Row} {n i : ℕ} (signals : ℕ) (names : List Name) (count : ℕ)
-      → Gathered rows n i → last ≤ i → last ≡ min count most_rows
-      → ◌≡◌ {A = Table} (record { signals = signals; names = names; count = n; rows = rows })
-      (table_from signals names (picked set (take count all)))
-  gathered_all {rows} {n} {i} signals names count g over used =
-      let upto : i ≡ min count most_rows = omega (arith, g.past) in
-      let same : take i all ≡ take count all =
-      rw upto (take_used all most_rows count g.places) in
-      let many : n ≡ length (picked set (take count all)) = rw same at (sym g.count) in
-      let are : rows ≡ (table_from signals names (picked set (take count all))).rows =
-      rw (← many, ← same) g.front in
-      λ k. record { signals = signals; names = names; count = many k; rows = are k }
+-- When all are gathered, they are the table of the set's rows.
+pub gathered_all : {set : ℕ} {all : List Row} {rows : List Row} {n i : ℕ} (signals : ℕ)
+    (names : List Name) → Gathered set all rows n i → length all ≤ i
+    → ◌≡◌ {A = Table} (record { signals = signals; names = names; count = n; rows = rows })
+    (table_from signals names (picked set all))
+gathered_all {set} {all} {rows} {n} {i} signals names g over =
+    let same : take i all ≡ all = take_all i all over in
+    let many : n ≡ length (picked set all) = rw same at (sym g.count) in
+    let are : rows ≡ (table_from signals names (picked set all)).rows = rw (← many, ← same) g.front in
+    λ k. record { signals = signals; names = names; count = many k; rows = are k }

@@ -20,6 +20,7 @@ pub const MOST_TICKS: u8 = 60;
 pub const NAME_CHARS: usize = 8;
 
 // The places of a row's conditions, in the order of the file's fields.
+// Kept: numbers, since `holds` of specs/Row.antt takes the place, and the reader counts them.
 pub const CONDITIONS: usize = 6;
 
 pub const TSE: usize = 0;
@@ -38,6 +39,7 @@ pub const AEE: usize = 5;
 pub const FIELDS: usize = 12;
 
 // A row: its six conditions as sets of letters, and the bounds of trigger, delay and action.
+// Kept: six bounds, not three pairs: `row_valid` and the theorems name each of them.
 #[derive(Clone, Copy, Debug, Default, PartialEq, Eq)]
 pub struct Row {
     pub sets: [u64; CONDITIONS],
@@ -50,6 +52,7 @@ pub struct Row {
 }
 
 // A signal's name: its letters a-z, then zeros.
+// Kept: eight places, since there is no heap, and `name_valid` speaks of those after the letters.
 #[derive(Clone, Copy, Debug, Default, PartialEq, Eq)]
 pub struct Name {
     pub chars: [u8; NAME_CHARS],
@@ -63,6 +66,7 @@ pub struct Signals {
 }
 
 // A table value. The first `signals` names and the first `count` rows are used; the others are 0.
+// Kept: counts beside arrays, since there is no heap, and `table_valid` speaks of the other places.
 #[derive(Clone, Copy, Debug, Default, PartialEq, Eq)]
 pub struct Table {
     pub signals: u8,
@@ -72,6 +76,7 @@ pub struct Table {
 }
 
 // Why a file or a call is turned down: document 01's number, and the line that it names or 0.
+// Kept: numbers, since `refused_at`, the documents and the printed reports name a refusal by them.
 #[derive(Clone, Copy, Debug, PartialEq, Eq)]
 pub struct Refusal {
     pub number: u8,

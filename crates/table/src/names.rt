@@ -55,6 +55,7 @@ pub fn same_name(a: Name, b: Name) -> bool
 }
 
 // Whether the first n names are 1 to 8 letters each.
+// Kept: names and n apart, here and below: the contracts hold at any n, `Signals` counts in a byte.
 #[tactic(auto, unfolding(letters::specs::Lists::every))]
 pub fn used_valid(names: [Name; MOST_SIGNALS], n: usize) -> bool
     ensures { result ≡ every name_valid (take n names) }

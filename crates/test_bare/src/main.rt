@@ -3,7 +3,6 @@
 // be the same.
 #![tactic(auto)]
 
-use input::Input;
 use std::io;
 
 // As much scratch, and as long a trace buffer, as the program lends.
@@ -37,7 +36,7 @@ fn print_report(rt: &(impl Print + Eprint), file: &[u8]) -> io::Result<()> {
 fn main(rt: HostRuntime) -> io::Result<()> {
     let mut file = input::buffer();
     match input::read_all(&mut rt.stdin(), &mut file) {
-        Input::Read(length) => print_report(&rt, &file[..length]),
-        Input::Failed => eprintln!(rt; "test_bare: standard input cannot be read"),
+        Ok(length) => print_report(&rt, &file[..length]),
+        Err(_) => eprintln!(rt; "test_bare: standard input cannot be read"),
     }
 }

@@ -27,9 +27,7 @@ pub(crate) fn print_sums(rt: &impl Print, sums: Sums) -> io::Result<()> {
 fn print_outcome(rt: &impl Print, outcome: Outcome) -> io::Result<()> {
     match outcome {
         Ok(()) => Ok(()),
-        Err(Refusal { number, line }) => println!(rt;
-            "  refused {number} line {line}"
-        ),
+        Err(Refusal { number, line }) => println!(rt; "  refused {number} line {line}"),
     }
 }
 

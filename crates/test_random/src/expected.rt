@@ -1,73 +1,75 @@
 // What a search should answer, from what the second search found and from what was lent.
-use crate::lent::{Lengths, room};
+use crate::lent::Lengths;
 use second::Solved;
 
-pub const ABSENT: u8 = 0;
-
-pub const SOUND: u8 = 1;
-
-pub const TRAPPED: u8 = 2;
-
-// The answer: the number of a refusal or 0, the verdict, and its trace length, lost number, count
-// and set of rows that never fire, with those of them that a broken trace realises. With it goes
-// what the lent lists hold: the scratch has `used` entries, and the rest of it and the whole index
-// are 0 if `cleared` and else unchanged. The trace buffer has `length` letters, the rest unchanged.
-#[derive(Clone, Copy)]
-pub struct Expected {
-    pub number: u8,
-    pub verdict: u8,
+// The length of the trap's trace, and the lost number there.
+#[derive(Clone, Copy, Debug, Default, PartialEq, Eq)]
+pub struct Trap {
     pub length: usize,
-    pub lost: usize,
+    pub lost: u16,
+}
+
+// What a verdict says: the count, the set of rows that never fire, and the trap, if there is one.
+#[derive(Clone, Copy, Debug, Default, PartialEq, Eq)]
+pub struct Values {
     pub count: usize,
     pub never: u64,
-    pub with_break: u64,
+    pub trap: Option<Trap>,
+}
+
+impl Values {
+    // Under a verdict that is sound, "every other number or mark in the answer is 0 or absent".
+    pub fn length_and_lost(self) -> Trap {
+        self.trap.unwrap_or_default()
+    }
+}
+
+// The verdict, or the number of a refusal. With it goes what the lent lists hold: the scratch has
+// `used` entries, and the rest of it and the whole index are 0 if `cleared` and else unchanged.
+#[derive(Clone, Copy, Debug, PartialEq, Eq)]
+pub struct Expected {
+    pub answer: Result<Values, u8>,
     pub used: usize,
     pub cleared: bool,
 }
 
-// "every other number or mark in the answer is 0 or absent". "A refused search gives no list."
-fn refused(number: u8, used: usize, cleared: bool) -> Expected {
-    Expected {
-        number,
-        verdict: ABSENT,
-        length: 0,
-        lost: 0,
-        count: 0,
-        never: 0,
-        with_break: 0,
-        used,
-        cleared,
+impl Expected {
+    // The trace buffer has so many letters, the rest unchanged.
+    pub fn letters(self) -> usize {
+        self.answer.unwrap_or_default().length_and_lost().length
     }
 }
 
-// "The search tests 17, 20, 21; 20 sets all scratch to 0, 21 leaves it as under a verdict."
-pub fn expect(valid: bool, solved: Solved, lengths: Lengths) -> Expected {
-    let count = solved.count;
+// "The search tests 17, 20, 21".
+fn answer(valid: bool, solved: &Solved, lengths: Lengths) -> Result<Values, u8> {
     if !valid {
-        return refused(17, 0, false);
+        return Err(17);
     }
-    if room(lengths.states, lengths.lost) < count {
-        return refused(20, 0, true);
+    if lengths.room() < solved.count {
+        return Err(20);
     }
-    if lengths.trace < solved.length {
-        return refused(21, count, true);
+    if lengths.trace < solved.trace_length() {
+        return Err(21);
     }
-    let mut verdict = SOUND;
-    if solved.trapped {
-        verdict = TRAPPED;
-    }
-    let length = solved.length;
-    let lost = solved.lost;
-    let never = solved.never;
+    Ok(Values {
+        count: solved.count,
+        never: solved.never.rows,
+        trap: solved.trap.map(|trap| Trap {
+            length: trap.trace.length,
+            lost: trap.lost,
+        }),
+    })
+}
+
+// "20 sets all scratch to 0, 21 leaves it as under a verdict."
+pub fn expect(valid: bool, solved: &Solved, lengths: Lengths) -> Expected {
+    let answer = answer(valid, solved, lengths);
     Expected {
-        number: 0,
-        verdict,
-        length,
-        lost,
-        count,
-        never: never.rows,
-        with_break: never.with_break,
-        used: count,
-        cleared: true,
+        answer,
+        used: match answer {
+            Err(17 | 20) => 0,
+            _ => solved.count,
+        },
+        cleared: answer != Err(17),
     }
 }

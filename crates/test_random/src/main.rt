@@ -9,15 +9,15 @@ mod strike;
 mod tally;
 
 use compare::{compare_answers, compare_lists};
-use expected::{ABSENT, expect};
-use lent::{Held, Lengths, any_lengths, before_search, capped, capped_index};
-use random::tables::{Case, TABLES, any_case};
-use random::tally::{Tally, none, reported};
-use second::{ALL_PARTS, Solved, solve};
+use expected::expect;
+use lent::{Held, Lengths, after_search, any_lengths, before_search};
+use random::tables::Case;
+use random::tally::{Tally, reported, try_all};
+use second::solve;
 use std::io;
-use strike::{any_strike, is_struck, struck, struck_answer};
+use strike::{any_strike, struck, struck_answer};
 use table::Table;
-use tally::{counted, noted, print_all};
+use tally::{WORDS, count_lent, count_table};
 use verdict::Found;
 
 // What a search finds, and what it leaves in the lists.
@@ -27,23 +27,20 @@ struct Searched {
     after: Held,
 }
 
-// Searches a table with the first places of each list lent, which hold rubbish before it.
-fn search_lent(seed: u64, table: Table, lengths: Lengths) -> Searched {
-    let before = before_search(seed);
-    let mut states = before.states;
-    let mut lost = before.lost;
-    let mut index = before.index;
-    let mut trace = before.trace;
-    let a = capped(lengths.states);
-    let d = capped(lengths.lost);
-    let k = capped_index(lengths.index);
-    let t = capped(lengths.trace);
+// Searches a table with the first places of each list lent.
+fn search_lent(table: Table, before: Held, lengths: Lengths) -> Searched {
+    let Held {
+        mut states,
+        mut lost,
+        mut index,
+        mut trace,
+    } = before;
     let found = search::search(
         table,
-        &mut states[..a],
-        &mut lost[..d],
-        &mut index[..k],
-        &mut trace[..t],
+        &mut states[..lengths.states],
+        &mut lost[..lengths.lost],
+        &mut index[..lengths.index],
+        &mut trace[..lengths.trace],
     );
     let after = Held {
         states,
@@ -54,43 +51,25 @@ fn search_lent(seed: u64, table: Table, lengths: Lengths) -> Searched {
     Searched { found, after }
 }
 
-// Searches the table that is given with lent lists of some lengths, compares, and counts it. In
-// one table of twenty a place is changed first.
-fn attempt(
-    rt: &impl Print,
-    case: Case,
-    solved: Solved,
-    answer: &[u64; ALL_PARTS],
-    tally: Tally,
-) -> io::Result<Tally> {
+// Solves a table by the second search, searches the table that is given with lent lists of some
+// lengths, compares, and counts it. In one table of twenty a place is changed first.
+fn attempt(rt: &impl Print, case: Case, tally: &mut Tally) -> io::Result<()> {
     let seed = case.seed;
-    let table = case.given;
-    let lengths = any_lengths(seed ^ 4, seed ^ 9, solved);
-    let right = expect(case.valid, solved, lengths);
-    let searched = search_lent(seed, table, lengths);
-    let found = searched.found;
-    let after = searched.after;
-    let strike = any_strike(seed ^ 5, lengths, right.verdict != ABSENT);
-    let lists = compare_lists(struck(after, strike), lengths, answer, right, seed);
-    let differs = lists | compare_answers(struck_answer(found, strike), right);
-    let changed = is_struck(strike);
-    let next = noted(tally, changed, differs, lengths);
-    let reported = reported(changed, differs);
-    counted(rt, next, right, table.count, reported, solved)
-}
-
-// Makes a table, solves it by the second search, and tries the first on it.
-fn run(rt: &impl Print, number: u64, tally: Tally) -> io::Result<Tally> {
-    let case = any_case(number);
-    let mut answer = [0u64; ALL_PARTS];
-    let solved = solve(case.table, &mut answer);
-    attempt(rt, case, solved, &answer, tally)
+    let solved = solve(&case.table);
+    let lengths = any_lengths(seed ^ 4, seed ^ 9, &solved);
+    let right = expect(case.valid, &solved, lengths);
+    let before = before_search(seed);
+    let Searched { found, after } = search_lent(case.given, before, lengths);
+    let strike = any_strike(seed ^ 5, lengths, right.answer.is_ok());
+    let right_lists = after_search(before, &solved, right);
+    let differs = compare_lists(&struck(after, strike), &right_lists, lengths)
+        | compare_answers(struck_answer(found, strike), right.answer);
+    let changed = strike.is_some();
+    count_lent(tally, changed, differs, lengths);
+    let differs = reported(changed, differs);
+    count_table(rt, tally, right, case.given.count, differs, &solved)
 }
 
 fn main(rt: HostRuntime) -> io::Result<()> {
-    let mut tally = none();
-    for number in 0..TABLES {
-        tally = run(&rt, number, tally)?;
-    }
-    print_all(&rt, tally)
+    try_all(&rt, &WORDS, |case, tally| attempt(&rt, case, tally))
 }

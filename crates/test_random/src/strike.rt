@@ -1,136 +1,95 @@
 // Now and then one place that is compared is changed after the search, to see that the comparison
 // notices it.
-use crate::lent::{Held, LONGEST, LONGEST_INDEX, Lengths};
+use crate::lent::{Held, Lengths};
 use random::numbers::{below, byte_below, mixed, one_in};
-use verdict::{Found, Summary};
+use std::ops::BitXorAssign;
+use verdict::{Finding, Found, Summary};
 
-// The lists by number: states, lost numbers, index, trace, and the set of rows that never fire,
-// whose places are its bits.
-const LISTS: u8 = 5;
-
-const NEVER: u8 = 4;
+// The lists: states, lost numbers, index, trace, and the set of rows that never fire, whose places
+// are its bits.
+#[derive(Clone, Copy, Debug, PartialEq, Eq)]
+enum List {
+    States,
+    Lost,
+    Index,
+    Trace,
+    Never,
+}
 
 const BITS: usize = 64;
 
-// A place of a list; or none, where there is no such list.
-#[derive(Clone, Copy)]
+// A place of a list.
+#[derive(Clone, Copy, Debug, PartialEq, Eq)]
 pub struct Strike {
-    pub list: u8,
-    pub at: usize,
-}
-
-fn nowhere() -> Strike {
-    Strike { list: LISTS, at: 0 }
-}
-
-pub fn is_struck(strike: Strike) -> bool {
-    strike.list < LISTS
+    list: List,
+    at: usize,
 }
 
 // One place in one table of twenty, if the list that is picked has any. The set is there only with
 // a verdict.
-pub fn any_strike(seed: u64, lengths: Lengths, verdict: bool) -> Strike {
+pub fn any_strike(seed: u64, lengths: Lengths, verdict: bool) -> Option<Strike> {
     let own = mixed(seed);
     if !one_in(own, 20) {
-        return nowhere();
+        return None;
     }
-    let list = byte_below(own ^ 1, LISTS);
-    let places = match list {
-        0 => lengths.states,
-        1 => lengths.lost,
-        2 => lengths.index,
-        3 => lengths.trace,
-        _ => if verdict { BITS } else { 0 },
+    let (list, places) = match byte_below(own ^ 1, 5) {
+        0 => (List::States, lengths.states),
+        1 => (List::Lost, lengths.lost),
+        2 => (List::Index, lengths.index),
+        3 => (List::Trace, lengths.trace),
+        _ => (List::Never, if verdict { BITS } else { 0 }),
     };
-    if places == 0 {
-        return nowhere();
-    }
-    let at = below(own ^ 2, (places % 65536) as u16) as usize;
-    Strike { list, at }
+    let at = usize::from(below(own ^ 2, places as u16));
+    (0 < places).then_some(Strike { list, at })
 }
 
-// List n with its place changed, if it is the one.
-fn strike_u64(list: [u64; LONGEST], n: u8, strike: Strike) -> [u64; LONGEST] {
-    let mut changed = list;
-    let at = strike.at;
-    if strike.list == n {
-        if at < LONGEST {
-            changed[at] = changed[at] ^ 1;
-        }
+// A list with a place changed.
+fn flip<T: BitXorAssign<T> + From<u8>>(list: &mut [T], at: usize)
+    requires { (a : T) (b : T) → T.can_bitxor_assign a b }
+{
+    if let Some(n) = list.get_mut(at) {
+        *n ^= T::from(1);
     }
-    changed
-}
-
-fn strike_u16(list: [u16; LONGEST], n: u8, strike: Strike) -> [u16; LONGEST] {
-    let mut changed = list;
-    let at = strike.at;
-    if strike.list == n {
-        if at < LONGEST {
-            changed[at] = changed[at] ^ 1;
-        }
-    }
-    changed
-}
-
-fn strike_index(list: [u16; LONGEST_INDEX], n: u8, strike: Strike) -> [u16; LONGEST_INDEX] {
-    let mut changed = list;
-    let at = strike.at;
-    if strike.list == n {
-        if at < LONGEST_INDEX {
-            changed[at] = changed[at] ^ 1;
-        }
-    }
-    changed
-}
-
-fn strike_u8(list: [u8; LONGEST], n: u8, strike: Strike) -> [u8; LONGEST] {
-    let mut changed = list;
-    let at = strike.at;
-    if strike.list == n {
-        if at < LONGEST {
-            changed[at] = changed[at] ^ 1;
-        }
-    }
-    changed
 }
 
 // The lists with the place changed, if there is one.
-pub fn struck(held: Held, strike: Strike) -> Held {
-    let states = held.states;
-    let lost = held.lost;
-    let index = held.index;
-    let trace = held.trace;
-    let states = strike_u64(states, 0, strike);
-    let lost = strike_u16(lost, 1, strike);
-    let index = strike_index(index, 2, strike);
-    let trace = strike_u8(trace, 3, strike);
-    Held {
-        states,
-        lost,
-        index,
-        trace,
-    }
-}
-
-fn strike_summary(summary: Summary, strike: Strike) -> Summary {
-    let mut lists = summary.lists;
-    let at = strike.at;
-    if strike.list == NEVER {
-        if at < BITS {
-            lists.never = lists.never ^ (1 << at);
+pub fn struck(held: Held, strike: Option<Strike>) -> Held {
+    let mut held = held;
+    if let Some(Strike { list, at }) = strike {
+        match list {
+            List::States => flip(&mut held.states, at),
+            List::Lost => flip(&mut held.lost, at),
+            List::Index => flip(&mut held.index, at),
+            List::Trace => flip(&mut held.trace, at),
+            List::Never => {}
         }
     }
-    Summary {
-        count: summary.count,
-        lists,
+    held
+}
+
+fn strike_summary(summary: Summary, at: usize) -> Summary {
+    let mut struck = summary;
+    if at < BITS {
+        struck.lists.never ^= 1 << at;
     }
+    struck
 }
 
 // The answer with a row put into its set of rows that never fire, or taken out, if it is the one.
-pub fn struck_answer(found: Found, strike: Strike) -> Found {
-    match found {
-        Found::Refused(refusal) => Found::Refused(refusal),
-        Found::Sound(summary) => Found::Sound(strike_summary(summary, strike)),
-        Found::Trapped(summary, trap) => Found::Trapped(strike_summary(summary, strike), trap),
+pub fn struck_answer(found: Found, strike: Option<Strike>) -> Found {
+    match (found, strike) {
+        (
+            Ok(finding),
+            Some(
+                Strike {
+                    list: List::Never,
+                    at,
+                },
+            ),
+        ) => Ok(match finding {
+            Finding::Sound(summary) => Finding::Sound(strike_summary(summary, at)),
+            Finding::Trapped(summary, trap) => Finding::Trapped(strike_summary(summary, at), trap),
+        }),
+        _ => found,
     }
 }

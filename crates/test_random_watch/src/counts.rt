@@ -1,82 +1,39 @@
-// How often each event came up in a trace, of each row: row i's counts stand from 6 * i on, in the
-// order of the events' bits.
-ghost use Rattle.std.specs.Prelude.{◌<◌};
-
-use crate::tally::KINDS;
-use random::numbers::{byte_below, only_if};
+// How often each event came up in a trace, of each row.
+use random::numbers::byte_below;
+use random::rules::{Happened, KINDS};
 use table::MOST_ROWS;
 use watcher::Counts;
 
-pub const ALL_COUNTS: usize = MOST_ROWS * KINDS;
+// The counts of each row, in the order of its events.
+pub type AllCounts = [[u64; KINDS]; MOST_ROWS];
 
-pub fn no_counts() -> [u64; ALL_COUNTS] {
-    [0u64; ALL_COUNTS]
-}
-
-// The counts with row i's events more.
-fn with_row(counts: [u64; ALL_COUNTS], i: usize, number: u8) -> [u64; ALL_COUNTS]
-    requires { i < 8 }
-{
-    let mut next = counts;
-    let mut left = number;
-    for k in 0..KINDS {
-        let count = next[KINDS * i + k];
-        if left % 2 == 1 {
-            if count < 1000 {
-                next[KINDS * i + k] = count + 1;
-            }
-        }
-        left = left / 2;
-    }
-    next
-}
-
-pub fn with_rows(counts: [u64; ALL_COUNTS], numbers: [u8; MOST_ROWS]) -> [u64; ALL_COUNTS] {
-    let mut all = counts;
-    for i in 0..MOST_ROWS {
-        let more = with_row(all, i, numbers[i]);
-        all = more;
-    }
-    all
-}
-
-// A row's counts that the watcher gives, with one changed if it has that place.
-fn same_row(counts: Counts, right: [u64; ALL_COUNTS], i: usize, changed: usize) -> bool
-    requires { i < 8 }
-{
-    let given = [
-        counts.started,
-        counts.realised,
-        counts.aborted,
-        counts.acting,
-        counts.completed,
-        counts.broken,
-    ];
-    for k in 0..KINDS {
-        let place = KINDS * i + k;
-        let number = given[k] ^ only_if(place == changed, 1) as u64;
-        if number != right[place] {
-            return false;
+// Counts the events of a tick.
+pub fn count_events(counts: &mut AllCounts, events: &[Happened; MOST_ROWS]) {
+    for (row, happened) in counts.iter_mut().zip(events.iter()) {
+        for (n, yes) in row.iter_mut().zip(happened.kinds()) {
+            *n = n.saturating_add(u64::from(yes));
         }
     }
-    true
 }
 
-// All counts that the watcher gives, with one changed, if there is a place for it.
-pub fn same_counts(given: [Counts; MOST_ROWS], right: [u64; ALL_COUNTS], changed: usize) -> bool {
-    for i in 0..MOST_ROWS {
-        if !same_row(given[i], right, i, changed) {
-            return false;
-        }
-    }
-    true
+// The counts that the watcher gives.
+pub fn given_counts(given: [Counts; MOST_ROWS]) -> AllCounts {
+    given.map(|counts| {
+        [
+            counts.started,
+            counts.realised,
+            counts.aborted,
+            counts.acting,
+            counts.completed,
+            counts.broken,
+        ]
+    })
 }
 
-// The place of a count that is to be changed, or none.
-pub fn any_place(seed: u64, struck: bool) -> usize {
-    if struck {
-        byte_below(seed ^ 1, 48) as usize
-    } else {
-        ALL_COUNTS
-    }
+// The counts with one of them changed.
+pub fn struck_counts(seed: u64, counts: AllCounts) -> AllCounts {
+    let place = usize::from(byte_below(seed ^ 1, 48));
+    let mut struck = counts;
+    struck[place / KINDS % MOST_ROWS][place % KINDS] ^= 1;
+    struck
 }

@@ -7,23 +7,18 @@ mod starts;
 mod tally;
 mod watched;
 
-use random::tables::{TABLES, any_case};
-use random::tally::{Tally, none};
+use random::tables::Case;
+use random::tally::{Tally, try_all};
 use std::io;
-use tally::{counted, print_all};
+use tally::{WORDS, count_table};
 use watched::follow;
 
-// Makes a table, and follows it along a trace.
-fn run(rt: &impl Print, number: u64, tally: Tally) -> io::Result<Tally> {
-    let case = any_case(number);
-    let followed = follow(case.seed ^ 6, case.given, case.valid, tally);
-    counted(rt, followed.tally, followed.differs)
+// Follows a table along a trace, and counts it.
+fn attempt(rt: &impl Print, case: Case, tally: &mut Tally) -> io::Result<()> {
+    let differs = follow(case, tally);
+    count_table(rt, tally, differs)
 }
 
 fn main(rt: HostRuntime) -> io::Result<()> {
-    let mut tally = none();
-    for number in 0..TABLES {
-        tally = run(&rt, number, tally)?;
-    }
-    print_all(&rt, tally)
+    try_all(&rt, &WORDS, |case, tally| attempt(&rt, case, tally))
 }

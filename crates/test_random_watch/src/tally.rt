@@ -1,72 +1,83 @@
 // How many ticks of the watcher were compared, how often each event came up in them, and how often
 // a trigger aborted and started again.
-use random::rules::{ABORTED, STARTED};
-use random::tally::{Tally, one_more_if, print, print_difference};
+use random::rules::Happened;
+use random::tally::{Tally, print_difference};
 use std::io;
 
-// The lines by their places: tables, those of them in which all agreed; ticks, those of them that
-// were refused; how often an event or a count was changed, and how often this was noticed; each
-// event; the triggers that were on, aborted and started again, and those of them that went on, in
-// their first tick.
-const TABLES: usize = 0;
-
-const AGREED: usize = 1;
-
-const TICKS: usize = 2;
-
-const REFUSED: usize = 3;
-
-const CHANGED: usize = 4;
-
-const NOTICED: usize = 5;
-
-const EVENTS: usize = 6;
-
-const AGAIN: usize = 12;
-
-const GOING_ON: usize = 13;
-
-// The number of events; each has the place of its bit.
-pub const KINDS: usize = 6;
-
-// With a tick more.
-pub fn with_tick(tally: Tally, refused: bool) -> Tally {
-    one_more_if(one_more_if(tally, TICKS, true), REFUSED, refused)
+// The lines, in the order in which they are printed: tables, those of them in which all agreed;
+// ticks, those of them that were refused; how often an event or a count was changed, and how often
+// this was noticed; each event; the triggers that were on, aborted and started again, and those of
+// them that went on, in their first tick.
+#[derive(Clone, Copy, Debug, PartialEq, Eq)]
+enum Line {
+    Tables,
+    Agreed,
+    Ticks,
+    Refused,
+    Changed,
+    Noticed,
+    Started,
+    Realised,
+    Aborted,
+    Acting,
+    Completed,
+    Broke,
+    Again,
+    GoingOn,
 }
 
-// With a place more that was changed, if it was, and whether the comparison noticed it.
-pub fn with_strike(tally: Tally, struck: bool, noticed: bool) -> Tally {
-    one_more_if(
-        one_more_if(tally, CHANGED, struck),
-        NOTICED,
-        struck & noticed,
-    )
-}
-
-// With a row's events more.
-pub fn with_events(tally: Tally, number: u8) -> Tally {
-    let mut next = tally;
-    let mut left = number;
-    for k in 0..KINDS {
-        next = one_more_if(next, EVENTS + k, left % 2 == 1);
-        left = left / 2;
+impl From<Line> for usize {
+    fn from(line: Line) -> usize {
+        line as usize
     }
-    next
 }
 
-// With a trigger more that started again, if it did. The codes are those before and after the tick.
-pub fn with_again(tally: Tally, before: u8, number: u8, after: u8) -> Tally {
-    let both = ABORTED | STARTED;
-    let again = (0 < before) & (before <= 60) & ((number & both) == both);
-    one_more_if(
-        one_more_if(tally, AGAIN, again),
-        GOING_ON,
-        again & (after == 1),
-    )
+// The words of the lines.
+pub const WORDS: [&str; 14] = [
+    "tables ",
+    "agreed ",
+    "ticks ",
+    "  refused ",
+    "  with an event or a count changed ",
+    "  of these noticed ",
+    "triggers started ",
+    "triggers realised ",
+    "triggers aborted ",
+    "actions started ",
+    "actions completed ",
+    "rows broken ",
+    "triggers started again as they abort ",
+    "  of these going on ",
+];
+
+// Counts a tick.
+pub fn count_tick(tally: &mut Tally, refused: bool) {
+    tally.one_more_if(Line::Ticks, true);
+    tally.one_more_if(Line::Refused, refused);
 }
 
-// With a table more, of which `differs` says what differs.
-pub fn counted(rt: &impl Print, tally: Tally, differs: u32) -> io::Result<Tally> {
+// Counts a place that was changed, if it was, and whether the comparison noticed it.
+pub fn count_strike(tally: &mut Tally, struck: bool, noticed: bool) {
+    tally.one_more_if(Line::Changed, struck);
+    tally.one_more_if(Line::Noticed, struck & noticed);
+}
+
+// Counts a row's events, and a trigger that started again. The codes are those before and after the
+// tick.
+pub fn count_row(tally: &mut Tally, before: u8, happened: Happened, after: u8) {
+    tally.one_more_if(Line::Started, happened.started);
+    tally.one_more_if(Line::Realised, happened.realised);
+    tally.one_more_if(Line::Aborted, happened.aborted);
+    tally.one_more_if(Line::Acting, happened.acting);
+    tally.one_more_if(Line::Completed, happened.completed);
+    tally.one_more_if(Line::Broke, happened.broke);
+    let again = matches!(before, 1..=60) & happened.aborted & happened.started;
+    tally.one_more_if(Line::Again, again);
+    tally.one_more_if(Line::GoingOn, again & (after == 1));
+}
+
+// Counts a table, of which `differs` says what differs, and prints that.
+pub fn count_table(rt: &impl Print, tally: &mut Tally, differs: u32) -> io::Result<()> {
     let words = [
         "a changed place ",
         "refusal ",
@@ -74,27 +85,8 @@ pub fn counted(rt: &impl Print, tally: Tally, differs: u32) -> io::Result<Tally>
         "events ",
         "event counts ",
     ];
-    print_difference(rt, &words, differs, tally.lines[TABLES])?;
-    let next = one_more_if(tally, TABLES, true);
-    Ok(one_more_if(next, AGREED, differs == 0))
-}
-
-pub fn print_all(rt: &impl Print, tally: Tally) -> io::Result<()> {
-    let words = [
-        "tables ",
-        "agreed ",
-        "ticks ",
-        "  refused ",
-        "  with an event or a count changed ",
-        "  of these noticed ",
-        "triggers started ",
-        "triggers realised ",
-        "triggers aborted ",
-        "actions started ",
-        "actions completed ",
-        "rows broken ",
-        "triggers started again as they abort ",
-        "  of these going on ",
-    ];
-    print(rt, tally, &words)
+    print_difference(rt, &words, differs, tally.lines[0])?;
+    tally.one_more_if(Line::Tables, true);
+    tally.one_more_if(Line::Agreed, differs == 0);
+    Ok(())
 }

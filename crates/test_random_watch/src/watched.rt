@@ -1,217 +1,164 @@
 // Ticks of the watcher along random traces, from random states: the number, all phases and all
 // events of each tick, and what the trace gives when it is played at once, held against the second
 // reading of the rules. What differs is a set of bits, whose words tally.rt has.
-ghost use Rattle.std.specs.Prelude.{◌≤◌};
-
-use crate::counts::{ALL_COUNTS, any_place, no_counts, same_counts, with_rows};
-use crate::starts::{MOST_LETTERS, any_codes, any_length, any_letters, tick_number, watch_of};
-use crate::tally::{with_again, with_events, with_strike, with_tick};
+use crate::counts::{AllCounts, count_events, given_counts, struck_counts};
+use crate::starts::{any_codes, any_length, any_letters, tick_outcome, watch_of};
+use crate::tally::{count_row, count_strike, count_tick};
 use pass::{Ticked, Watch};
-use random::numbers::{below, byte_below, mixed, one_in, only_if};
-use random::rules::{code_after, events};
-use random::tally::{Tally, reported, same_number, unless};
+use random::numbers::{below, byte_below, mixed, one_in};
+use random::rules::{Happened, KINDS, code_after, events};
+use random::tables::Case;
+use random::tally::{Tally, reported, unless};
 use step::Events;
-use table::{MOST_ROWS, Table};
+use table::{MOST_ROWS, Outcome, Table};
 use watcher::Played;
 
-// What differs, with what is counted.
-#[derive(Clone, Copy)]
-pub struct Compared {
-    pub differs: u32,
-    pub tally: Tally,
-}
-
-// What a tick should give: its number or 0, and each row's events and code after it.
-#[derive(Clone, Copy)]
+// What a tick should give: whether it is taken, and each row's events and code after it.
+#[derive(Clone, Copy, Debug, PartialEq, Eq)]
 struct Right {
-    number: u8,
-    events: [u8; MOST_ROWS],
+    outcome: Outcome,
+    events: [Happened; MOST_ROWS],
     codes: [u8; MOST_ROWS],
 }
 
-fn right_tick(table: Table, valid: bool, codes: [u8; MOST_ROWS], letter: u8) -> Right {
-    let number = tick_number(valid, table, codes, letter);
-    let rows = table.rows;
-    let mut numbers = [0u8; MOST_ROWS];
-    let mut after = codes;
-    for i in 0..MOST_ROWS {
-        if (number == 0) & (i < table.count as usize) {
-            numbers[i] = events(rows[i], codes[i], letter);
-            after[i] = code_after(rows[i], codes[i], letter);
+fn right_tick(table: &Table, valid: bool, codes: [u8; MOST_ROWS], letter: u8) -> Right {
+    let mut right = Right {
+        outcome: tick_outcome(valid, table, &codes, letter),
+        events: [Happened::default(); MOST_ROWS],
+        codes,
+    };
+    if right.outcome.is_ok() {
+        let used = usize::from(table.count);
+        for (i, row) in table.rows.iter().enumerate().take(used) {
+            right.events[i] = events(row, codes[i], letter);
+            right.codes[i] = code_after(row, codes[i], letter);
         }
     }
-    Right {
-        number,
-        events: numbers,
-        codes: after,
-    }
+    right
 }
 
-// The events that the watcher gives, as a number.
-fn number_of(e: Events) -> u8 {
-    only_if(e.started, 1)
-        | only_if(e.realised, 2)
-        | only_if(e.aborted, 4)
-        | only_if(e.acting, 8)
-        | only_if(e.completed, 16)
-        | only_if(e.broken, 32)
+// Each row's events that the watcher gives, in the order of `Happened::kinds`.
+fn given_events(given: [Events; MOST_ROWS]) -> [[bool; KINDS]; MOST_ROWS] {
+    given.map(|events| {
+        [
+            events.started,
+            events.realised,
+            events.aborted,
+            events.acting,
+            events.completed,
+            events.broken,
+        ]
+    })
 }
 
 fn same_codes(watch: Watch, codes: [u8; MOST_ROWS]) -> bool {
-    for i in 0..MOST_ROWS {
-        let slot = watch.slots[i];
-        let phase = slot.phase;
-        if phases::code(phase) != codes[i] as u16 {
-            return false;
-        }
-    }
-    true
+    watch.slots.map(phases::code) == codes.map(u16::from)
 }
 
-// An event of a row that is changed before it is compared: none is, if there is no such row.
-#[derive(Clone, Copy)]
-struct Strike {
-    row: usize,
-    event: u8,
-}
-
-fn any_strike(seed: u64, struck: bool) -> Strike {
-    let at = byte_below(seed ^ 1, 8) as usize;
-    Strike {
-        row: if struck { at } else { MOST_ROWS },
-        event: 1 << (byte_below(seed ^ 2, 6) % 8),
-    }
-}
-
-fn same_events(all: [Events; MOST_ROWS], right: [u8; MOST_ROWS], strike: Strike) -> bool {
-    for i in 0..MOST_ROWS {
-        let given = number_of(all[i]) ^ only_if(i == strike.row, strike.event);
-        if given != right[i] {
-            return false;
-        }
-    }
-    true
+// The events with one of a row changed.
+fn struck_events(seed: u64, events: [[bool; KINDS]; MOST_ROWS]) -> [[bool; KINDS]; MOST_ROWS] {
+    let row = usize::from(byte_below(seed ^ 1, 8)) % MOST_ROWS;
+    let event = usize::from(byte_below(seed ^ 2, 6)) % KINDS;
+    let mut struck = events;
+    struck[row][event] ^= true;
+    struck
 }
 
 // A tick's answer, compared. If it is struck, an event in it is changed first.
-fn compare_tick(seed: u64, ticked: Ticked, right: Right, struck: bool, tally: Tally) -> Compared {
-    let reply = ticked.reply;
-    let outcome = reply.outcome;
-    let all = reply.events;
-    let numbers = right.events;
-    let same = same_events(all, numbers, any_strike(seed, struck));
-    let codes = right.codes;
-    Compared {
-        differs: unless(same_number(outcome, right.number), 1)
-            | unless(same_codes(ticked.watch, codes), 2)
-            | reported(struck, unless(same, 3)),
-        tally: with_strike(with_tick(tally, right.number != 0), struck, !same),
+fn compare_tick(seed: u64, ticked: Ticked, right: Right, struck: bool, tally: &mut Tally) -> u32 {
+    let mut given = given_events(ticked.reply.events);
+    if struck {
+        given = struck_events(seed, given);
     }
+    let same = given == right.events.map(|happened| happened.kinds());
+    count_tick(tally, right.outcome.is_err());
+    count_strike(tally, struck, !same);
+    unless(ticked.reply.outcome == right.outcome, 1)
+        | unless(same_codes(ticked.watch, right.codes), 2)
+        | reported(struck, unless(same, 3))
 }
 
-// With the events of a tick more, from the codes before it on.
-fn with_rights(tally: Tally, before: [u8; MOST_ROWS], right: Right) -> Tally {
-    let mut all = tally;
-    for i in 0..MOST_ROWS {
-        all = with_events(all, right.events[i]);
-        all = with_again(all, before[i], right.events[i], right.codes[i]);
+// Counts the events of a tick, from the codes before it on.
+fn count_rights(tally: &mut Tally, before: [u8; MOST_ROWS], right: Right) {
+    let rows = right.events.iter().zip(before).zip(right.codes);
+    for ((happened, before), after) in rows {
+        count_row(tally, before, *happened, after);
     }
-    all
 }
 
 // Where a trace has come to: the watcher's state, the codes of the second reading and how often
-// each event came up in it, the number of the first refusal, and what differs so far.
-#[derive(Clone, Copy)]
+// each event came up in it, the first refusal, and what differs so far.
+#[derive(Clone, Copy, Debug, PartialEq, Eq)]
 struct Course {
     watch: Watch,
     codes: [u8; MOST_ROWS],
-    counts: [u64; ALL_COUNTS],
-    number: u8,
+    counts: AllCounts,
+    outcome: Outcome,
     differs: u32,
-    tally: Tally,
 }
 
-// One tick more, compared.
-fn advance(seed: u64, table: Table, valid: bool, letter: u8, struck: bool, at: Course) -> Course {
-    let codes = at.codes;
-    let right = right_tick(table, valid, codes, letter);
-    let ticked = watcher::tick_table(table, at.watch, letter);
-    let watch = ticked.watch;
-    let compared = compare_tick(seed, ticked, right, struck, at.tally);
-    let counts = at.counts;
-    let numbers = right.events;
-    let more = with_rows(counts, numbers);
-    let after = right.codes;
-    Course {
-        watch,
-        codes: after,
-        counts: more,
-        number: if at.number == 0 {
-            right.number
-        } else {
-            at.number
-        },
-        differs: at.differs | compared.differs,
-        tally: with_rights(compared.tally, codes, right),
+impl Course {
+    // One tick more, compared.
+    fn advance(&mut self, seed: u64, case: &Case, letter: u8, struck: bool, tally: &mut Tally) {
+        let codes = self.codes;
+        let right = right_tick(&case.given, case.valid, codes, letter);
+        let ticked = watcher::tick_table(case.given, self.watch, letter);
+        self.watch = ticked.watch;
+        self.codes = right.codes;
+        count_events(&mut self.counts, &right.events);
+        self.outcome = self.outcome.and(right.outcome);
+        self.differs |= compare_tick(seed, ticked, right, struck, tally);
+        count_rights(tally, codes, right);
     }
-}
 
-// The trace played at once, compared with what its ticks gave. A refusal gives the first state, and
-// counts of 0. If it is struck, a count in the answer is changed first.
-fn compare_play(
-    seed: u64,
-    played: Played,
-    start: [u8; MOST_ROWS],
-    struck: bool,
-    at: Course,
-) -> Compared {
-    let outcome = played.outcome;
-    let given = played.counts;
-    let mut codes = start;
-    let mut right = no_counts();
-    if at.number == 0 {
-        codes = at.codes;
-        right = at.counts;
-    }
-    let same = same_counts(given, right, any_place(seed, struck));
-    Compared {
-        differs: at.differs
-            | unless(same_number(outcome, at.number), 1)
+    // The trace played at once, compared with what its ticks gave. A refusal gives the first state,
+    // and counts of 0. If it is struck, a count in the answer is changed first.
+    fn compare_play(
+        self,
+        seed: u64,
+        played: Played,
+        start: [u8; MOST_ROWS],
+        struck: bool,
+        tally: &mut Tally,
+    ) -> u32 {
+        let (codes, right) = match self.outcome {
+            Ok(()) => (self.codes, self.counts),
+            Err(_) => (start, [[0; KINDS]; MOST_ROWS]),
+        };
+        let mut counts = given_counts(played.counts);
+        if struck {
+            counts = struck_counts(seed, counts);
+        }
+        let same = counts == right;
+        count_strike(tally, struck, !same);
+        self.differs
+            | unless(played.outcome == self.outcome, 1)
             | unless(same_codes(played.watch, codes), 2)
-            | reported(struck, unless(same, 4)),
-        tally: with_strike(at.tally, struck, !same),
+            | reported(struck, unless(same, 4))
     }
-}
-
-// Plays the first n letters of a trace.
-fn play_first(table: Table, watch: Watch, trace: [u8; MOST_LETTERS], n: usize) -> Played
-    requires { n ≤ 24 }
-{
-    watcher::play(table, watch, &trace[..n])
 }
 
 // Ticks a table along a trace, and plays the trace. In one table of twenty a place is changed.
-pub fn follow(seed: u64, table: Table, valid: bool, tally: Tally) -> Compared {
-    let own = mixed(seed);
-    let codes = any_codes(own ^ 1, table);
-    let trace = any_letters(own ^ 2, table.signals);
-    let n = any_length(own ^ 3);
-    let strike = below(own ^ 4, 480) as usize;
+pub fn follow(case: Case, tally: &mut Tally) -> u32 {
+    let own = mixed(case.seed ^ 6);
+    let table = case.given;
+    let codes = any_codes(own ^ 1, &table);
+    let letters = any_letters(own ^ 2, table.signals);
+    let trace = &letters[..any_length(own ^ 3)];
+    let strike = usize::from(below(own ^ 4, 480));
     let start = watch_of(codes);
     let mut course = Course {
         watch: start,
         codes,
-        counts: no_counts(),
-        number: tick_number(valid, table, codes, 0),
+        counts: [[0; KINDS]; MOST_ROWS],
+        outcome: tick_outcome(case.valid, &table, &codes, 0),
         differs: 0,
-        tally,
     };
-    for i in 0..MOST_LETTERS {
-        if i < n {
-            let step = own ^ (16 * (i as u64) + 5);
-            course = advance(step, table, valid, trace[i], i == strike, course);
-        }
+    for (i, letter) in trace.iter().enumerate() {
+        let seed = own ^ (16 * (i as u64) + 5);
+        course.advance(seed, &case, *letter, i == strike, tally);
     }
-    let played = play_first(table, start, trace, n);
-    compare_play(own ^ 6, played, codes, one_in(own ^ 7, 20), course)
+    let played = watcher::play(table, start, trace);
+    let struck = one_in(own ^ 7, 20);
+    course.compare_play(own ^ 6, played, codes, struck, tally)
 }

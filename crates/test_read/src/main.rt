@@ -2,7 +2,6 @@
 // the table.
 #![tactic(auto)]
 
-use input::Input;
 use std::fs::File;
 use std::rt::Files;
 use std::{env, io};
@@ -80,8 +79,8 @@ fn show_file(rt: &(impl Print + Files), name: &str) -> io::Result<()> {
     };
     let mut buffer = [0u8; 5000];
     match input::read_all(&mut file, &mut buffer) {
-        Input::Read(n) => show(rt, &buffer[..n]),
-        Input::Failed => show(rt, b""),
+        Ok(n) => show(rt, &buffer[..n]),
+        Err(_) => show(rt, b""),
     }
 }
 

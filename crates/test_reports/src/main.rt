@@ -6,7 +6,6 @@
 
 ghost use Rattle.std.specs.Prelude.{◌≡◌, ◌≤◌, length, take};
 
-use input::Input;
 use std::fs::File;
 use std::rt::{Files, Runtime};
 use std::{env, io};
@@ -26,8 +25,8 @@ fn read_file(rt: &impl Files, name: &str, file: &mut [u8]) -> usize
         return 0;
     };
     match input::read_all(&mut opened, file) {
-        Input::Read(n) => n,
-        Input::Failed => 0,
+        Ok(n) => n,
+        Err(_) => 0,
     }
 }
 

@@ -5,13 +5,13 @@ use crate::print::print_found;
 use crate::run::{ALL, ANSWER, LONG, LOST, TRACE, run};
 use std::io;
 use table::Table;
-use verdict::Found;
+use verdict::{Finding, Found};
 
 fn count_of(found: Found) -> u16 {
     match found {
-        Found::Refused(_) => 0,
-        Found::Sound(summary) => summary.count,
-        Found::Trapped(summary, _) => summary.count,
+        Err(_) => 0,
+        Ok(Finding::Sound(summary)) => summary.count,
+        Ok(Finding::Trapped(summary, _)) => summary.count,
     }
 }
 

@@ -13,7 +13,6 @@ mod print;
 mod run;
 
 use indexes::show_indexes;
-use input::Input;
 use long::show_long;
 use never::show_never;
 use pressed::show_pressed;
@@ -46,8 +45,8 @@ fn table_in(rt: &(impl Print + Files), name: &str) -> io::Result<Table> {
     };
     let mut buffer = [0u8; 5000];
     let bytes: &[u8] = match input::read_all(&mut file, &mut buffer) {
-        Input::Read(n) => &buffer[..n],
-        Input::Failed => b"",
+        Ok(n) => &buffer[..n],
+        Err(_) => b"",
     };
     Ok(reader::read(bytes).table)
 }

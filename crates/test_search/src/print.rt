@@ -2,7 +2,7 @@
 use crate::run::{ALL, LONG, TRACE};
 use std::io;
 use table::Refusal;
-use verdict::Found;
+use verdict::{Finding, Found};
 
 // A word, and after it n numbers of one of the list's parts, from its first place on.
 pub fn print_part(
@@ -54,16 +54,16 @@ fn print_never(rt: &impl Print, never: u64) -> io::Result<()> {
 // before it, if the call is refused. Answers how many letters the trace has.
 pub fn print_found(rt: &impl Print, found: Found) -> io::Result<u16> {
     match found {
-        Found::Refused(Refusal { number, line }) => {
+        Err(Refusal { number, line }) => {
             print!(rt; "refused {number} line {line}, no verdict, 0 states, lost 0")?;
             Ok(0)
         }
-        Found::Sound(summary) => {
+        Ok(Finding::Sound(summary)) => {
             print!(rt; "sound, {} states, lost 0", summary.count)?;
             print_never(rt, summary.lists.never)?;
             Ok(0)
         }
-        Found::Trapped(summary, trap) => {
+        Ok(Finding::Trapped(summary, trap)) => {
             print!(rt; "trapped, {} states, lost {}", summary.count, trap.lost)?;
             print_never(rt, summary.lists.never)?;
             Ok(trap.length)

@@ -3,7 +3,7 @@
 ghost use Rattle.std.specs.Prelude.{◌≤◌};
 
 use table::Table;
-use verdict::Found;
+use verdict::{Finding, Found};
 
 // The most places that a case lends of one list: more than the search takes.
 pub const LONG: usize = 5000;
@@ -48,9 +48,9 @@ fn index_clipped(n: usize) -> usize
 // that never fire.
 fn numbers(found: Found) -> [u64; NUMBERS] {
     match found {
-        Found::Refused(refusal) => [refusal.number as u64, refusal.line as u64, 0, 0, 0, 0, 0],
-        Found::Sound(summary) => [0, 0, 1, summary.count as u64, 0, 0, summary.lists.never],
-        Found::Trapped(summary, trap) => {
+        Err(refusal) => [refusal.number as u64, refusal.line as u64, 0, 0, 0, 0, 0],
+        Ok(Finding::Sound(summary)) => [0, 0, 1, summary.count as u64, 0, 0, summary.lists.never],
+        Ok(Finding::Trapped(summary, trap)) => {
             let lost = trap.lost as u64;
             let length = trap.length as u64;
             [

@@ -3,7 +3,7 @@
 use crate::rows::{A, ALWAYS, C, NEVER};
 use crate::ways::Tally;
 use lending::MOST_LENT;
-use pass::{Slot, Watch};
+use pass::Watch;
 use std::io;
 use table::{MOST_ROWS, MOST_TICKS, Row, Table};
 
@@ -87,24 +87,18 @@ fn eight_rows() -> Table {
     table
 }
 
-fn slot(code: u8) -> Slot {
-    Slot {
-        phase: phases::phase_of(code),
-    }
-}
-
 // Delay 1, trigger 2, action 1, trigger 59, delay 60, action 60, broken, waiting.
 fn eight_phases() -> Watch {
     Watch {
         slots: [
-            slot(61),
-            slot(2),
-            slot(121),
-            slot(59),
-            slot(120),
-            slot(180),
-            slot(255),
-            slot(0),
+            phases::phase_of(61),
+            phases::phase_of(2),
+            phases::phase_of(121),
+            phases::phase_of(59),
+            phases::phase_of(120),
+            phases::phase_of(180),
+            phases::phase_of(255),
+            phases::phase_of(0),
         ],
     }
 }
@@ -122,7 +116,7 @@ fn print_kept(rt: &impl Print, tally: Tally, table: Table, watch: Watch) -> io::
     print_before(rt, watch)?;
     let mut last = crate::print_case(rt, tally, "eighth row's bound 61", long, watch, 1)?;
     let mut far = watch;
-    far.slots[2] = slot(123);
+    far.slots[2] = phases::phase_of(123);
     print_before(rt, far)?;
     last = crate::print_case(rt, last, "third row's code 123", table, far, 1)?;
     print_before(rt, watch)?;

@@ -14,7 +14,7 @@ mod ways;
 
 ghost use Rattle.std.specs.Prelude.{◌≤◌};
 
-use pass::{Slot, Watch};
+use pass::Watch;
 use rows::{one_row, one_signal, row_brief, row_done, row_lapse, row_p, row_q, row_s, row_stand};
 use std::io;
 use step::Phase;
@@ -25,7 +25,7 @@ use ways::Tally;
 // `code 61`, and before it `refused 19 line 0, ` if the call is refused: the state is kept then.
 fn print_answer(rt: &impl Print, played: Played) -> io::Result<()> {
     show::print_outcome(rt, played.outcome)?;
-    let code = phases::code(played.watch.slots[0].phase);
+    let code = phases::code(played.watch.slots[0]);
     println!(rt; "code {code}")
 }
 
@@ -111,9 +111,7 @@ pub(crate) fn print_cases(
 
 fn with_code(code: u8) -> Watch {
     let mut watch = watcher::start();
-    watch.slots[0] = Slot {
-        phase: phases::phase_of(code),
-    };
+    watch.slots[0] = phases::phase_of(code);
     watch
 }
 
@@ -153,9 +151,7 @@ fn states_refused(rt: &impl Print, tally: Tally) -> io::Result<Tally> {
     last = print_code(rt, last, p, 61, 2)?;
     last = print_code(rt, last, p, 255, 2)?;
     let mut unused = start;
-    unused.slots[1] = Slot {
-        phase: Phase::Broken,
-    };
+    unused.slots[1] = Phase::Broken;
     print_case(rt, last, "unused row", p, unused, 1)
 }
 

@@ -16,8 +16,8 @@ pub(crate) fn print_outcome(rt: &impl Print, outcome: Outcome) -> io::Result<()>
 
 pub(crate) fn print_codes(rt: &impl Print, watch: Watch) -> io::Result<()> {
     print!(rt; "codes")?;
-    for slot in watch.slots {
-        let code = phases::code(slot.phase);
+    for phase in watch.slots {
+        let code = phases::code(phase);
         print!(rt; " {code}")?;
     }
     Ok(())

@@ -2,7 +2,7 @@
 // codes and all counts of the three, and all events of the two that tick letter by letter.
 use crate::runs::{ALL_COUNTS, ALL_EVENTS, Run, by_play, by_ticks};
 use crate::show::{print_codes, print_counts, print_outcome, print_ticks};
-use pass::{Slot, Watch};
+use pass::Watch;
 use std::io;
 use step::Phase;
 use table::{MOST_ROWS, Outcome, Refusal, Table};
@@ -39,11 +39,7 @@ fn refusal_of(outcome: Outcome) -> Refusal {
 
 fn same_codes(one: Watch, other: Watch) -> bool {
     for i in 0..MOST_ROWS {
-        let slot = one.slots[i];
-        let phase = slot.phase;
-        let fellow = other.slots[i];
-        let second = fellow.phase;
-        if phases::code(phase) != phases::code(second) {
+        if phases::code(one.slots[i]) != phases::code(other.slots[i]) {
             return false;
         }
     }
@@ -145,9 +141,7 @@ fn print_noticed(rt: &impl Print, name: &str, alike: bool) -> io::Result<()> {
 fn spoilt_phase(run: Run) -> Run {
     let mut spoilt = run;
     let mut moved = run.watch;
-    moved.slots[MOST_ROWS - 1] = Slot {
-        phase: Phase::Broken,
-    };
+    moved.slots[MOST_ROWS - 1] = Phase::Broken;
     spoilt.watch = moved;
     spoilt
 }

@@ -17,8 +17,8 @@ use Rattle.text.proofs.Joins.{lines_ended}
 use Rattle.text.proofs.Splits.{count_append}
 use Rattle.load.specs.Load.{sums_of}
 use Rattle.load.specs.declared.Ran.{Ran}
-use Rattle.load.specs.declared.Sums.{Sums}
-use Rattle.load.specs.declared.Totals.{Totals}
+use Rattle.load.specs.Figures.{Sums}
+use Rattle.load.specs.Figures.{Totals}
 use Rattle.lines.specs.Line.{spaced}
 use Rattle.totals.specs.Totals.{totals_line, totals_lines, sums_line, run_lines, run_bytes}
 use Rattle.lines.proofs.Injective.{numbered_free, refused_free, byte_at, refused_injective}

@@ -13,7 +13,7 @@ use Rattle.std.specs.Prelude.{Ok, Err}
 use Rattle.table.specs.declared.Refusal.{Refusal}
 use Rattle.load.specs.Load.{no_totals, sum_of, sums_of}
 use Rattle.load.specs.declared.Ran.{Ran}
-use Rattle.load.specs.declared.Totals.{Totals}
+use Rattle.load.specs.Figures.{Totals}
 use Rattle.lines.specs.Line.{spaced}
 use Rattle.totals.specs.Totals.{totals_line, totals_lines, sums_line, run_lines, run_bytes}
 use Rattle.lines.proofs.Lengths.{more_length, both_length, one_length, refused_length}

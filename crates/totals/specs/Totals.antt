@@ -6,8 +6,8 @@ use Rattle.text.specs.Bounds.{decimal}
 use Rattle.text.specs.Bytes.{bytes}
 use Rattle.text.specs.Lines.{ended}
 use Rattle.load.specs.declared.Ran.{Ran}
-use Rattle.load.specs.declared.Sums.{Sums}
-use Rattle.load.specs.declared.Totals.{Totals}
+use Rattle.load.specs.Figures.{Sums}
+use Rattle.load.specs.Figures.{Totals}
 use Rattle.load.specs.Load.{sums_of}
 use Rattle.lines.specs.Line.{refused_line, spaced}
 

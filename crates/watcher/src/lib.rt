@@ -9,11 +9,12 @@ ghost use Rattle.pass.specs.Watch.{start_watch};
 ghost use Rattle.pass.specs.Answer.{tick_answer};
 ghost use Rattle.watcher.specs.Inner.Tables.{table_tick, table_play, stopped_by};
 
-use pass::{Pass, Reply, Slot, Ticked, Watch};
+use pass::{Pass, Reply, Ticked, Watch};
 use step::Phase;
 use table::{MOST_ROWS, Outcome, Refusal, Row, Table};
 
 // How often each event happened to a row.
+// Kept: beside the flags of `step::Events`, as one generic for flags and counts would name neither.
 #[derive(Clone, Copy, Debug, PartialEq, Eq, Default)]
 pub struct Counts {
     pub started: u64,
@@ -26,6 +27,7 @@ pub struct Counts {
 
 // What a trace of ticks gives: whether it was taken; the state after it; and how often each event
 // happened to each row. If it was refused the state is the old one, and the counts are 0.
+// Kept: an outcome beside values, of which theorems speak on refusal too (`play_kept`, `play_none`).
 #[derive(Clone, Copy, Debug, PartialEq, Eq)]
 pub struct Played {
     pub outcome: Outcome,
@@ -37,16 +39,14 @@ pub struct Played {
 pub fn start() -> Watch
     ensures { result ≡ start_watch }
 {
-    let slot = Slot {
-        phase: Phase::Waiting,
-    };
     Watch {
-        slots: [slot; MOST_ROWS],
+        slots: [Phase::Waiting; MOST_ROWS],
     }
 }
 
 // One tick of the rows that are lent, in file order, with the state by value.
 // Refused with 17, 18 or 19, in this order; the state is then the one that was passed.
+// Kept: signals, rows, state and letter apart, as a call is lent them (document 01).
 #[tactic(auto, using(pass::proofs::Passes::pass_answer))]
 pub fn tick_rows(signals: u8, rows: &[Row], watch: Watch, letter: u8) -> Ticked
     ensures { result ≡ tick_answer signals rows.now watch letter }

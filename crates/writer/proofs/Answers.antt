@@ -11,6 +11,7 @@ use lib.ListN.{length}
 use Rattle.table.specs.Limits.{most_bytes}
 use Rattle.table.specs.Valid.{table_valid}
 use Rattle.table.specs.declared.Table.{Table}
+use Rattle.put.proofs.Pages.{added_le}
 use Rattle.writer.specs.File.{file_text, WriteCall, unwritten, wrote, write_answer}
 
 module _ (table : Table) (buffer : List ℕ) where
@@ -64,3 +65,5 @@ module _ (table : Table) (buffer : List ℕ) where
   pub answer23 : table_valid table ≡ true → most_bytes < length text
       → write_answer table buffer ≡ unwritten 23 buffer
   answer23 passes long = case_answer (is23 passes long)
+
+pub ruleset long_file = (answer23, added_le)

@@ -1,6 +1,3 @@
--- `Pieces`: pieces joined by a byte. `Literals`, `Fields`: those of a term and of a row. `Answers`:
--- the four answers of a call.
-pub mod Pieces
-pub mod Literals
-pub mod Fields
+-- `Turns`: what a loop puts at each turn. `Answers`: which answer of `write` comes when.
+pub mod Turns
 pub mod Answers

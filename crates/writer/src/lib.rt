@@ -1,242 +1,204 @@
 // A table value as a file of version 0001, in one way, to the byte. specs/File.antt says what is
 // right, for every value and every lent buffer.
-#![tactic(auto)]
+#![tactic(auto, using(put::proofs::Pages::pages), unfolding(put::specs::Inner::Page::added))]
 
 ghost use Rattle.std.specs.Prelude.{cond, [], ◌∷◌, ◌++◌, map, ◌≡◌, take};
 ghost use Rattle.letters.specs.Letter.{width, members};
 ghost use Rattle.text.specs.Lines.{LF as lineEnd, ended, joined, space};
 ghost use Rattle.text.specs.Words.{signals_word, or_sign, not_sign};
-ghost use Rattle.put.specs.Inner.Puts.{Puts};
-ghost use Rattle.writer.specs.Inner.Writing.{behind, field_values, field_text, not_written};
+ghost use Rattle.put.specs.Inner.Page.{added};
+ghost use Rattle.writer.specs.Inner.Writing.{behind, names_of, fields_of, field_text, not_written};
 ghost use Rattle.writer.specs.File.{name_text, term_text, condition_text, row_text, file_text};
 ghost use Rattle.writer.specs.File.{write_answer};
 
-use table::{FIELDS, MOST_BYTES, MOST_ROWS, MOST_SIGNALS, Name, Outcome, Refusal, Row, Table};
+use put::Page;
+use table::{FIELDS, MOST_BYTES, MOST_SIGNALS, Name, Outcome, Refusal, Row, Signals, Table};
 use text::LF;
 
 // Whether a table was written, and how long its file is: 0 where it was not.
-#[derive(Clone, Copy)]
+#[derive(Clone, Copy, Debug, PartialEq, Eq)]
 pub struct Written {
     pub outcome: Outcome,
     pub length: usize,
 }
 
-// A name, without its zeros.
-fn put_name(out: &mut [u8], at: usize, name: Name) -> usize
-    ensures { Puts at (name_text name) out.old result out.new }
+// What a field of a row's line holds.
+#[derive(Clone, Copy, Debug, PartialEq, Eq)]
+enum Field {
+    Condition(u64),
+    Bound(u8),
+}
+
+// The first so many, or all if there are fewer.
+#[tactic(auto, using(std::proofs::lemmas::List::take_min))]
+fn first<T>(all: &[T], count: u8) -> &[T]
+    ensures { result.now ≡ take count all.now }
 {
-    let chars = name.chars;
-    let run = table::names::name_run(chars);
-    put::word(out, at, &chars[..run])
+    &all[..usize::from(count).min(all.len())]
+}
+
+// A name, without its zeros.
+#[tactic(auto, using(table::proofs::Laws::name_run_le))]
+fn put_name(page: &mut Page, name: Name)
+    ensures { page.new ≡ added page.old (name_text name) }
+{
+    let run = table::names::name_run(name.chars);
+    page.word(&name.chars[..run]);
 }
 
 // A name, after `!` where its signal is off.
-fn put_literal(out: &mut [u8], at: usize, name: Name, on: bool) -> usize
-    ensures { Puts at (cond on (name_text name) (not_sign ∷ name_text name))
-        out.old result out.new }
+fn put_literal(page: &mut Page, name: Name, on: bool)
+    ensures { page.new ≡ added page.old (cond on (name_text name) (not_sign ∷ name_text name)) }
 {
-    if on {
-        return put_name(out, at, name);
+    if !on {
+        page.byte(b'!');
     }
-    let from = put::byte(out, at, b'!');
-    put_name(out, from, name)
+    put_name(page, name);
 }
 
 // A byte between two pieces, where there is a piece before.
-fn put_between(out: &mut [u8], at: usize, b: u8, later: bool) -> usize
-    ensures { Puts at (cond later (b ∷ []) []) out.old result out.new }
+fn put_between(page: &mut Page, b: u8, later: bool)
+    ensures { page.new ≡ added page.old (cond later (b ∷ []) []) }
 {
     if later {
-        return put::byte(out, at, b);
+        page.byte(b);
     }
-    at
 }
 
 // The term of a letter: every signal, with `&` between them.
-fn put_term(
-    out: &mut [u8],
-    at: usize,
-    names: [Name; MOST_SIGNALS],
-    signals: u8,
-    letter: u8,
-) -> usize
-    ensures { Puts at (term_text (take signals names) letter) out.old result
-        out.new }
+#[tactic(auto, using(crate::proofs::Turns::literal_turns), unfolding(put::specs::Inner::Page::added))]
+fn put_term(page: &mut Page, signals: &Signals, letter: u8)
+    ensures { page.new ≡ added page.old (term_text (names_of signals.now) letter) }
 {
-    let mut next = at;
-    let mut k: u8 = 0;
-    while k < signals {
-        let i = k as usize;
-        if MOST_SIGNALS <= i {
-            return next;
-        }
-        let from = put_between(out, next, b'&', 0 < k);
-        let on = letters::contains(letter as u64, k);
-        next = put_literal(out, from, names[i], on);
-        k += 1;
+    for (k, name) in first(&signals.names, signals.count).iter().enumerate() {
+        put_between(page, b'&', 0 < k);
+        let on = letters::contains(u64::from(letter), k as u8);
+        put_literal(page, *name, on);
     }
-    next
 }
 
 // A term for each letter of a set that the signals have, smallest first, with `|` between them.
-fn put_terms(out: &mut [u8], at: usize, names: [Name; MOST_SIGNALS], signals: u8, set: u64) -> usize
-    ensures { Puts at (joined or_sign (map (term_text (take signals names))
-        (members (width signals) 0 set))) out.old result out.new }
+#[tactic(auto, using(crate::proofs::Turns::term_turns), unfolding(put::specs::Inner::Page::added))]
+fn put_terms(page: &mut Page, signals: &Signals, set: u64)
+    ensures { page.new ≡ added page.old (joined or_sign (map (term_text (names_of signals.now))
+        (members (width signals.now.count) 0 set))) }
 {
-    let width = letters::width_of(signals);
-    let mut next = at;
     let mut later = false;
-    let mut letter: u8 = 0;
-    while letter < width {
+    for letter in 0..letters::width_of(signals.count) {
         if letters::contains(set, letter) {
-            let from = put_between(out, next, b'|', later);
-            next = put_term(out, from, names, signals, letter);
+            put_between(page, b'|', later);
+            put_term(page, signals, letter);
             later = true;
         }
-        letter += 1;
     }
-    next
 }
 
 // A condition: `0`, `1`, or its terms. Letters that the signals do not have count for nothing; and
 // no set has all letters of more signals than a table can have.
-fn put_condition(
-    out: &mut [u8],
-    at: usize,
-    names: [Name; MOST_SIGNALS],
-    signals: u8,
-    set: u64,
-) -> usize
-    ensures { Puts at (condition_text (take signals names) signals set)
-        out.old result out.new }
+fn put_condition(page: &mut Page, signals: &Signals, set: u64)
+    ensures { page.new ≡ added page.old
+        (condition_text (names_of signals.now) signals.now.count set) }
 {
-    let all = letters::all(signals);
+    let all = letters::all(signals.count);
     let held = set & all;
     if held == 0 {
-        return put::byte(out, at, b'0');
+        page.byte(b'0');
+    } else if held == all && usize::from(signals.count) <= MOST_SIGNALS {
+        page.byte(b'1');
+    } else {
+        put_terms(page, signals, set);
     }
-    if (held == all) & (signals as usize <= MOST_SIGNALS) {
-        return put::byte(out, at, b'1');
-    }
-    put_terms(out, at, names, signals, set)
 }
 
-// What the fields of a row hold, in file order.
-fn values_of(row: Row) -> [u64; FIELDS]
-    ensures { result ≡ field_values row }
+// The fields of a row, in file order.
+fn fields_of(row: &Row) -> [Field; FIELDS]
+    ensures { result ≡ fields_of row.now }
 {
-    let sets = row.sets;
     [
-        sets[0],
-        sets[1],
-        sets[2],
-        row.tmin as u64,
-        row.tmax as u64,
-        row.lmin as u64,
-        row.lmax as u64,
-        sets[3],
-        sets[4],
-        sets[5],
-        row.amin as u64,
-        row.amax as u64,
+        Field::Condition(row.sets[0]),
+        Field::Condition(row.sets[1]),
+        Field::Condition(row.sets[2]),
+        Field::Bound(row.tmin),
+        Field::Bound(row.tmax),
+        Field::Bound(row.lmin),
+        Field::Bound(row.lmax),
+        Field::Condition(row.sets[3]),
+        Field::Condition(row.sets[4]),
+        Field::Condition(row.sets[5]),
+        Field::Bound(row.amin),
+        Field::Bound(row.amax),
     ]
 }
 
-// Field k, which holds v: a condition, or a bound.
-fn put_field(
-    out: &mut [u8],
-    at: usize,
-    names: [Name; MOST_SIGNALS],
-    signals: u8,
-    k: usize,
-    v: u64,
-) -> usize
-    ensures { Puts at (field_text (take signals names) signals k v)
-        out.old result out.new }
+fn put_field(page: &mut Page, signals: &Signals, field: Field)
+    ensures { page.new ≡ added page.old
+        (field_text (names_of signals.now) signals.now.count field) }
 {
-    if table::rows::is_bound(k) {
-        return put::decimal(out, at, (v % 256) as u32);
+    match field {
+        Field::Condition(set) => put_condition(page, signals, set),
+        Field::Bound(n) => page.decimal(u32::from(n)),
     }
-    put_condition(out, at, names, signals, v)
 }
 
 // The line of a row.
-fn put_row(out: &mut [u8], at: usize, names: [Name; MOST_SIGNALS], signals: u8, row: Row) -> usize
-    ensures { Puts at (row_text (take signals names) signals row ++ lineEnd ∷ [])
-        out.old result out.new }
+#[tactic(auto, using(crate::proofs::Turns::field_turns), unfolding(put::specs::Inner::Page::added))]
+fn put_row(page: &mut Page, signals: &Signals, row: &Row)
+    ensures { page.new ≡ added page.old
+        (row_text (names_of signals.now) signals.now.count row.now ++ lineEnd ∷ []) }
 {
-    let values = values_of(row);
-    let mut next = put::word(out, at, b"rule ");
-    let mut k: usize = 0;
-    while k < FIELDS {
-        let from = put_between(out, next, b',', 0 < k);
-        next = put_field(out, from, names, signals, k, values[k]);
-        k += 1;
+    page.word(b"rule ");
+    for (k, field) in fields_of(row).iter().enumerate() {
+        put_between(page, b',', 0 < k);
+        put_field(page, signals, *field);
     }
-    put::byte(out, next, LF)
+    page.byte(LF);
 }
 
 // The names of the signals, each after a space.
-fn put_names(out: &mut [u8], at: usize, names: [Name; MOST_SIGNALS], signals: u8) -> usize
-    ensures { Puts at (behind space (map name_text (take signals names)))
-        out.old result out.new }
+#[tactic(auto, using(crate::proofs::Turns::name_turns), unfolding(put::specs::Inner::Page::added, crate::specs::Inner::Writing::behind))]
+fn put_names(page: &mut Page, signals: &Signals)
+    ensures { page.new ≡ added page.old
+        (behind space (map name_text (names_of signals.now))) }
 {
-    let mut next = at;
-    let mut k: usize = 0;
-    while k < signals as usize {
-        if MOST_SIGNALS <= k {
-            return next;
-        }
-        let from = put::byte(out, next, b' ');
-        next = put_name(out, from, names[k]);
-        k += 1;
+    for name in first(&signals.names, signals.count) {
+        page.byte(b' ');
+        put_name(page, *name);
     }
-    next
 }
 
 // Line 2.
-fn put_signals(out: &mut [u8], at: usize, names: [Name; MOST_SIGNALS], signals: u8) -> usize
-    ensures { Puts at (joined space (signals_word ∷ map name_text (take signals names))
-        ++ lineEnd ∷ []) out.old result out.new }
+#[tactic(auto, using(crate::proofs::Turns::signal_line), unfolding(put::specs::Inner::Page::added))]
+fn put_signals(page: &mut Page, signals: &Signals)
+    ensures { page.new ≡ added page.old
+        (joined space (signals_word ∷ map name_text (names_of signals.now)) ++ lineEnd ∷ []) }
 {
-    let first = put::word(out, at, b"signals");
-    let end = put_names(out, first, names, signals);
-    put::byte(out, end, LF)
+    page.word(b"signals");
+    put_names(page, signals);
+    page.byte(LF);
 }
 
-// The lines of the first `count` rows.
-fn put_rows(
-    out: &mut [u8],
-    at: usize,
-    names: [Name; MOST_SIGNALS],
-    signals: u8,
-    rows: [Row; MOST_ROWS],
-    count: u8,
-) -> usize
-    ensures { Puts at (ended (map (row_text (take signals names) signals)
-        (take count rows))) out.old result out.new }
+// The lines of the first `count` rows, or of all if there are fewer.
+#[tactic(auto, using(crate::proofs::Turns::row_turns))]
+fn put_rows(page: &mut Page, signals: &Signals, rows: &[Row], count: u8)
+    ensures { page.new ≡ added page.old
+        (ended (map (row_text (names_of signals.now) signals.now.count) (take count rows.now))) }
 {
-    let mut next = at;
-    let mut i: usize = 0;
-    while i < count as usize {
-        if MOST_ROWS <= i {
-            return next;
-        }
-        next = put_row(out, next, names, signals, rows[i]);
-        i += 1;
+    for row in first(rows, count) {
+        put_row(page, signals, row);
     }
-    next
 }
 
-// The whole file, from the buffer's front.
-fn put_file(out: &mut [u8], table: Table) -> usize
-    ensures { Puts 0 (file_text table) out.old result out.new }
+// The whole file.
+fn put_file(page: &mut Page, table: &Table)
+    ensures { page.new ≡ added page.old (file_text table.now) }
 {
-    let names = table.names;
-    let rows = table.rows;
-    let second = put::word(out, 0, b"PNP 0001\n");
-    let third = put_signals(out, second, names, table.signals);
-    put_rows(out, third, names, table.signals, rows, table.count)
+    let signals = Signals {
+        count: table.signals,
+        names: table.names,
+    };
+    page.word(b"PNP 0001\n");
+    put_signals(page, &signals);
+    put_rows(page, &signals, &table.rows, table.count);
 }
 
 fn refused(number: u8) -> Written
@@ -251,7 +213,7 @@ fn refused(number: u8) -> Written
 // Writes a table value as a file of version 0001 from the buffer's front, and answers its length;
 // or 17, 23 or 24, in this order, and the buffer is unchanged. The file is put twice: into no
 // buffer, to know its length, and then into the lent one.
-#[tactic(auto, using(crate::proofs::Answers::answer23))]
+#[tactic(auto, using(crate::proofs::Answers::long_file))]
 pub fn write(table: Table, out: &mut [u8]) -> Written
     ensures { record {
       outcome = result.outcome;
@@ -264,16 +226,18 @@ pub fn write(table: Table, out: &mut [u8]) -> Written
         return refused(17);
     }
     let mut none = [0u8; 0];
-    let length = put_file(&mut none, table);
-    if MOST_BYTES < length {
+    let mut counted = Page::new(&mut none);
+    put_file(&mut counted, &table);
+    if MOST_BYTES < counted.at {
         return refused(23);
     }
-    if out.len() < length {
+    if out.len() < counted.at {
         return refused(24);
     }
-    let end = put_file(out, table);
+    let mut page = Page::new(out);
+    put_file(&mut page, &table);
     Written {
         outcome: Ok(()),
-        length: end,
+        length: page.at,
     }
 }

@@ -3,7 +3,6 @@
 // out. What fails is said on standard error, and nothing is printed then.
 #![tactic(auto)]
 
-use input::Input;
 use std::io;
 
 // No file is longer: `most_bytes` of the crate table.
@@ -21,7 +20,7 @@ fn print_file(rt: &(impl Print + Eprint), file: &[u8]) -> io::Result<()> {
 fn main(rt: HostRuntime) -> io::Result<()> {
     let mut file = input::buffer();
     match input::read_all(&mut rt.stdin(), &mut file) {
-        Input::Read(length) => print_file(&rt, &file[..length]),
-        Input::Failed => eprintln!(rt; "writetable: standard input cannot be read"),
+        Ok(length) => print_file(&rt, &file[..length]),
+        Err(_) => eprintln!(rt; "writetable: standard input cannot be read"),
     }
 }

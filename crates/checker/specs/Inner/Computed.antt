@@ -6,7 +6,6 @@ use Rattle.table.specs.Refusal.{Outcome}
 use Rattle.std.specs.Prelude.{Ok, Err}
 use Rattle.table.specs.declared.Table.{Table}
 use Rattle.reader.specs.Inner.File.{read_answer}
-use Rattle.verdict.specs.declared.Found.TheVariants.{Refused as FoundRefused}
 use Rattle.search.specs.Lent.{Lent}
 use Rattle.search.specs.Inner.Computed.{search_answer}
 use Rattle.load.specs.Load.{not_run, run_answer}
@@ -20,7 +19,7 @@ use Rattle.checker.specs.FileReport.{FileReport, Call, call_of}
 -- A refused file is not searched, and lent memory is unchanged then.
 abbrev pub after_reading : Outcome → Table → Lent → FileReport
 after_reading (Err refusal) table lent =
-    record { report = report_bytes 0 0 lent.trace (FoundRefused refusal); lent = lent }
+    record { report = report_bytes 0 0 lent.trace (Err refusal); lent = lent }
 after_reading (Ok _) table lent =
     let searched = search_answer table lent in
     record {

@@ -1,12 +1,11 @@
 -- Document 02, ask 6, worked: conditions and the text that each is written as, a row of one signal,
 -- and the paper's table of two rows.
-use Rattle.std.specs.Prelude.{ℕ, List, [], ◌∷◌, map, ◌≡◌, length}
+use Rattle.std.specs.Prelude.{ℕ, List, [], ◌∷◌, Ok, map, ◌≡◌, length}
 use Rattle.letters.specs.Letter.{width}
 use Rattle.text.specs.Bytes.{bytes}
 use Rattle.text.specs.Lines.{ended}
 use Rattle.conditions.specs.Condition.{name_of}
 use Rattle.conditions.specs.Inner.Judge.{judge}
-use Rattle.conditions.specs.declared.Judged.TheVariants.{Letters}
 use Rattle.writer.specs.File.{condition_text}
 
 -- Some signals, a condition over them as it is sent, and as it is written.
@@ -19,7 +18,7 @@ pub record TextCase : Type 0 where
 pub record TextCaseMeans (case : TextCase) : Type 0 where
   pub set : ℕ
   pub reads : judge (map name_of case.signals) (width (length case.signals)) case.sent
-      ≡ Letters set
+      ≡ Ok set
   pub writes : condition_text (map name_of case.signals) (length case.signals) set
       ≡ case.written
 

@@ -2,7 +2,7 @@
 use Rattle.std.specs.Prelude.{ℕ, ◌≤◌, List, [], ◌∷◌, ◌++◌, length}
 use Rattle.table.specs.Limits.{most_rows}
 use Rattle.text.specs.Lines.{ended}
-use Rattle.load.specs.declared.Totals.{Totals}
+use Rattle.load.specs.Figures.{Totals}
 use Rattle.load.specs.Load.{sums_of}
 use Rattle.lines.specs.Line.{refused_line}
 use Rattle.totals.specs.Totals.{totals_lines, sums_line}

@@ -2,8 +2,8 @@
 use Rattle.std.specs.Prelude.{ℕ, ◌+◌, ◌≤◌, ◌≡◌}
 use Rattle.step.specs.declared.Phase.{Phase}
 use Rattle.step.specs.declared.Phase.TheVariants.{Delay, Action}
-use Rattle.load.specs.declared.Sums.{Sums}
-use Rattle.load.specs.declared.Totals.{Totals}
+use Rattle.load.specs.Figures.{Sums}
+use Rattle.load.specs.Figures.{Totals}
 
 -- "For each row realised equals completed plus broken plus open"; and so of sums.
 abbrev pub Balanced : Totals → Type 0

@@ -7,8 +7,8 @@ use Rattle.step.specs.declared.Phase.{Phase}
 use Rattle.step.specs.Events.{no_events, is_open}
 use Rattle.pass.specs.declared.Watch.{Watch}
 use Rattle.pass.specs.Inner.Pass.{phase_at}
-use Rattle.load.specs.declared.Sums.{Sums}
-use Rattle.load.specs.declared.Totals.{Totals}
+use Rattle.load.specs.Figures.{Sums}
+use Rattle.load.specs.Figures.{Totals}
 use Rattle.load.specs.Load.{no_totals}
 
 -- One more fits each count.

@@ -15,12 +15,12 @@ use Rattle.step.specs.Valid.{phase_valid, is_waiting}
 use Rattle.pass.specs.declared.Ticked.{Ticked}
 use Rattle.pass.specs.declared.Watch.{Watch}
 use Rattle.pass.specs.declared.Pass.{Pass}
-use Rattle.pass.specs.Watch.{slot_of, phases_of}
+use Rattle.pass.specs.Watch.{phases_of}
 use Rattle.pass.specs.Answer.{first_number, answered, nothing_happened, refused_with}
 
 -- The phase of row i.
 abbrev pub phase_at : Watch → ℕ → Phase
-phase_at watch i = (get_or watch.slots i (slot_of Waiting)).phase
+phase_at watch i = get_or watch.slots i Waiting
 
 unfoldable pub begun : ℕ → ℕ → Watch → ℕ → Pass
 begun s n watch letter = record {
@@ -35,7 +35,7 @@ begun s n watch letter = record {
 -- Row i moved on, in the state.
 abbrev pub moved : Watch → ℕ → Row → ℕ → Watch
 moved watch i row letter = record {
-  slots = set watch.slots i (slot_of (step_row row letter (phase_at watch i)));
+  slots = set watch.slots i (step_row row letter (phase_at watch i));
 }
 
 unfoldable pub row_taken : Pass → ℕ → Row → Pass

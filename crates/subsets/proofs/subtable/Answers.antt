@@ -1,35 +1,35 @@
--- `subsets::subtable` meets its contract. The invariant: of the rows below i, those in the set
--- stand in front. The measure: how many rows are left. Assumes nothing.
-use native.Mathlib.Omega.{arith}
-use mathlib.Core.Logic.{⊎_elim}
-use mathlib.Core.Path.{◌≡◌, sym, ◌∙◌}
-use lib.ListN.{length}
+-- `subsets::subtable` meets its contract. Assumes nothing.
+use Rattle.std.proofs.Common.{◌≡◌, ◌≤◌, sym, ◌∙◌, ap, min, take, length, length-take, rules, arith}
+use Rattle.letters.specs.Sets.{picked}
 use Rattle.table.specs.Limits.{most_rows}
-use Rattle.subsets.proofs.Gathering.{gathered_none, gathered_next, gathered_skip}
-use Rattle.subsets.proofs.Gathering.{gathered_all}
-use Rattle.subsets.proofs.subtable.Goals.{Start}
+use Rattle.table.specs.Valid.{table_from}
+use Rattle.table.proofs.Laws.{default_row}
+use Rattle.subsets.proofs.Gathering.{take_used, gathered_none, gathered_next, gathered_skip, gathered_all}
 use Rattle.subsets.proofs.subtable.Goals as goal
-
--- A table value has its places for rows: it is so of its fourth field.
-places : (c : Start) → length c.args.table.rows ≡ most_rows
-places c = c.well_formed.0.1.1.1.1.1.0.1.0.1
+use Rattle.subsets.proofs.subtable.Goals.{then-contains, else-contains}
 
 pub loop-i-init : goal.loop-i-init
 loop-i-init c =
-    rw c.zero_row-rows.ensures
-    (gathered_none _ _ _ (places c.before.before.before.before)
-    (omega (arith, c.before.used-last.ensures)))
+    let few : length (take c.min-used.result c.args.table.rows) ≤ most_rows = rw length-take (omega arith) in
+    rw (default_row c.default-rows.result c.default-rows.ensures)
+    (gathered_none c.args.set (take c.min-used.result c.args.table.rows) few)
 
 pub loop-i-preserved : goal.loop-i-preserved
 loop-i-preserved c =
-    let turn = c.before.before in
-    let told = c.before.contains.ensures in
-    let inv = turn.before.loop-i.invariant in
-    let left = turn.loop-i-test.true in
-    ⊎_elim (λ w. rw (w.rows-is, w.n-is) (gathered_next _ _ _ inv left (sym told ∙ w.if-contains.true)))
-    (λ w. rw (w.rows-is, w.n-is) (gathered_skip _ _ _ inv left (sym told ∙ w.if-contains.false))) c.if-contains.branch-raw
+    let g = c.loop-i.invariant in
+    elim c.if-contains.branch [
+      | then-contains w ↦
+          rw (w.rows-is, w.n-is) (gathered_next _ _ g c.loop-i-test.true (sym c.contains.ensures ∙ w.if-contains.true))
+      | else-contains w ↦
+          rw (w.rows-is, w.n-is) (gathered_skip _ _ g c.loop-i-test.true (sym c.contains.ensures ∙ w.if-contains.false))
+    ]
 
 pub returns : goal.returns
 returns c =
-    gathered_all _ _ _ _ _ _ c.before.loop-i.invariant c.loop-i-test.false
-    c.before.before.before.used-last.ensures
+    let table = c.args.table in
+    let places : length table.rows ≡ most_rows = search rules in
+    let used : c.min-used.result ≡ min table.count most_rows = omega arith in
+    let same : take c.min-used.result table.rows ≡ take table.count table.rows =
+    rw used (take_used table.rows most_rows table.count places) in
+    gathered_all table.signals table.names c.loop-i.invariant c.loop-i-test.false
+    ∙ ap (λ rows. table_from table.signals table.names (picked c.args.set rows)) same

@@ -1,12 +1,8 @@
--- `put_file` meets its contract: line 1, line 2 and the rows, one after the other. Assumes nothing.
-use mathlib.Core.List.{◌++◌}
-use Rattle.text.specs.Words.{PNP, version1}
-use Rattle.put.proofs.Lines.{puts_line}
+-- `put_file` meets its contract: its lines, one after the other. Assumes nothing.
+use Rattle.put.proofs.Pages.{line_then}
 use Rattle.writer.specs.File.{file_text}
 use Rattle.writer.proofs.put_file.Goals as goal
 
 pub returns : goal.returns
 unfolding file_text
-returns c =
-    puts_line (PNP ++ version1) _ c.word-second.ensures
-    (puts_line _ _ c.put_signals-third.ensures c.put_rows.ensures)
+returns c = line_then _ _ _ c.word.ensures (line_then _ _ _ c.put_signals.ensures c.put_rows.ensures)

@@ -1,5 +1,0 @@
--- `step::completes` meets its contract: one event. Assumes nothing.
-use Rattle.step.proofs.completes.Goals as goal
-
-pub returns : goal.returns
-returns c = rw c.before.goes_on-stepped.ensures
