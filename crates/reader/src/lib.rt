@@ -64,6 +64,7 @@ fn read_rows(rest: &[u8], signals: Signals, version: Version) -> Result<Table, R
     let mut bounds = [[0u8; rows::BOUNDS]; MOST_ROWS];
     let mut n: u8 = 0;
     let mut at: usize = 0;
+    // Kept: by place and count; the library's split has one line more, the empty one past the last LF.
     while at < rest.len() {
         let i = usize::from(n);
         if MOST_ROWS <= i {
