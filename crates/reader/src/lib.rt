@@ -49,6 +49,7 @@ fn rows_of(
 }
 
 // The lines from line 3 on: a row each, in a file of a version.
+#[tactic(auto, using(crate::proofs::Gathering::rows_none))]
 fn read_rows(rest: &[u8], signals: Signals, version: Version) -> Result<Table, Refusal>
     ensures { reading result ≡ rows_answer signals.names signals.count version (lines rest.now) }
 {
@@ -63,6 +64,7 @@ fn read_rows(rest: &[u8], signals: Signals, version: Version) -> Result<Table, R
     let mut bounds = [[0u8; rows::BOUNDS]; MOST_ROWS];
     let mut n: u8 = 0;
     let mut at: usize = 0;
+    // Kept: by place and count; the library's split has one line more, the empty one past the last LF.
     while at < rest.len() {
         let i = usize::from(n);
         if MOST_ROWS <= i {
@@ -100,6 +102,7 @@ fn past(s: &[u8], end: usize) -> usize
 }
 
 // The lines from line 2 on, in a file of a version.
+#[tactic(auto, using(crate::proofs::Lines::body_none, text::proofs::Parts::part_front))]
 fn read_body(rest: &[u8], version: Version) -> Result<Table, Refusal>
     ensures { reading result ≡ body_answer version (lines rest.now) }
 {
@@ -112,6 +115,7 @@ fn read_body(rest: &[u8], version: Version) -> Result<Table, Refusal>
 }
 
 // The lines of a file; or number and line.
+#[tactic(auto, using(crate::proofs::Lines::read_empty, crate::proofs::Lines::read_long, crate::proofs::Lines::read_open, text::proofs::Parts::part_front))]
 fn read_file(bytes: &[u8]) -> Result<Table, Refusal>
     ensures { reading result ≡ read_answer bytes.now }
 {

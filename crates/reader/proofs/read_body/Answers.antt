@@ -1,24 +1,16 @@
 -- `reader::read_body` meets its contract, line by line. Assumes nothing.
 use Prim.Native.Nat.{ℕ}
-use borrow.Author.Tests.{eqb-true, eqb-false}
+use borrow.Author.Tests.{eqb-false}
 use mathlib.Core.List.{List}
 use mathlib.Core.Path.{sym, ap, ◌∙◌}
-use lib.ListN.{length}
 use Rattle.std.proofs.lemmas.Result.{err_from_is_err_and}
 use Rattle.text.specs.Inner.Cut.{split, lines}
 use Rattle.text.specs.Lines.{LF, space}
 use Rattle.text.proofs.Parts.{part_front}
 use Rattle.header.specs.Inner.Header.{signals_answer}
 use Rattle.reader.specs.Inner.File.{rows_answer}
-use Rattle.reader.proofs.Lines.{body_none, body_read, after_part, on_line_ok, on_line_err}
+use Rattle.reader.proofs.Lines.{body_read, after_part, on_line_ok, on_line_err}
 use Rattle.reader.proofs.read_body.Goals as goal
-
-pub returns-then-is_empty : goal.returns-then-is_empty
-returns-then-is_empty c = sym (body_none _ _ (eqb-true _ 0 (sym c.if-is_empty.ensures)))
-
-pub slice_bounds-read_signals-end : goal.slice_bounds-read_signals-end
-slice_bounds-read_signals-end c =
-    c.find-end.ensures ∙ ap length (sym (part_front LF c.args.rest.now c.find-end.ensures))
 
 -- What line 2 is read as.
 pub returns-in_err-signals : goal.returns-in_err-signals

@@ -1,6 +1,6 @@
 -- `reader::read_file` meets its contract, number by number. Assumes nothing.
 use Prim.Native.Nat.{ℕ, ◌-◌, ◌≤◌}
-use borrow.Author.Tests.{eqb-true, eqb-false}
+use borrow.Author.Tests.{eqb-false}
 use native.Mathlib.Omega.{arith}
 use mathlib.Core.List.{List}
 use mathlib.Core.Path.{◌≡◌, sym, ap, ◌∙◌}
@@ -11,25 +11,9 @@ use Rattle.text.specs.Lines.{LF}
 use Rattle.text.proofs.Parts.{part_front}
 use Rattle.header.specs.Inner.Header.{version_answer}
 use Rattle.reader.specs.Inner.File.{body_answer}
-use Rattle.reader.proofs.Lines.{read_empty, read_long, read_open, file_read, after_part}
+use Rattle.reader.proofs.Lines.{file_read, after_part}
 use Rattle.reader.proofs.Lines.{on_line_ok, on_line_err}
 use Rattle.reader.proofs.read_file.Goals as goal
-
-pub returns-then-is_empty : goal.returns-then-is_empty
-returns-then-is_empty c = sym (read_empty _ (eqb-true _ 0 (sym c.if-is_empty.ensures)))
-
-pub returns-then-bytes-gt-MOST_BYTES : goal.returns-then-bytes-gt-MOST_BYTES
-returns-then-bytes-gt-MOST_BYTES c =
-    sym (read_long _ (eqb-false _ 0 (sym c.if-is_empty.ensures)) (omega arith))
-
-pub returns-then-bytes-ne-LF : goal.returns-then-bytes-ne-LF
-returns-then-bytes-ne-LF c =
-    let short : length c.args.bytes.now ≤ 4096 = omega arith in
-    sym (read_open _ (eqb-false _ 0 (sym c.if-is_empty.ensures)) short c.if-bytes-ne-LF.true)
-
-pub slice_bounds-read_version-end : goal.slice_bounds-read_version-end
-slice_bounds-read_version-end c =
-    c.find-end.ensures ∙ ap length (sym (part_front LF c.args.bytes.now c.find-end.ensures))
 
 -- What line 1 is read as.
 pub returns-in_err-version : goal.returns-in_err-version
