@@ -1,2 +1,3 @@
--- Bytes put on a page.
+-- `Puts`: bytes put into a buffer from a place on. `Pages`: bytes put on a page.
+pub mod Puts
 pub mod Pages

@@ -1,12 +1,10 @@
 -- Bytes put on a page, one after the other. Assumes nothing.
 use Rattle.std.proofs.Common.{◌≡◌, ℕ, suc, ◌+◌, ◌<◌, ◌≤◌, min, List, [], ◌∷◌, ◌++◌, length, take, get_or, set}
-use Rattle.std.proofs.Common.{refl, sym, ap, ◌∙◌, arith, append_assoc}
+use Rattle.std.proofs.Common.{refl, ap, ◌∙◌, arith, add-one, append_assoc}
 use Rattle.std.specs.Borrow.{MutBor}
 use Rattle.std.proofs.Math.ListN.{length-set}
-use Rattle.std.proofs.Math.Seq.{set_out}
 use Rattle.std.proofs.lemmas.List.{take_more}
 use Rattle.std.proofs.lemmas.List.Edits.{sets}
-use native.Mathlib.Decide.{dec_lt}
 use Rattle.text.proofs.Decimals.{decimal_few, decimal_more}
 use Rattle.text.proofs.Joins.{ended_append}
 use Rattle.text.specs.Lines.{LF, ended}
@@ -14,6 +12,7 @@ use Rattle.verdict.specs.Buffer.{written}
 use Rattle.put.specs.declared.Page.{Page}
 use Rattle.put.specs.Inner.Page.{added, blank, with_byte}
 use Rattle.put.specs.Inner.Puts.{Puts, last_place}
+use Rattle.put.proofs.Puts.{sets_last}
 
 -- Bytes, and then more of them; and the first ones, and then one more.
 pub added_append : (p : Page) (xs ys : List ℕ) → added p (xs ++ ys) ≡ added (added p xs) ys
@@ -46,23 +45,6 @@ unfolding added with_byte
 added_counted p [] h = omega arith
 added_counted p (x ∷ xs) h = omega (arith, added_counted (with_byte p x) xs h)
 
--- Past the buffer's end nothing is stored: so a place past the last one may be taken for the last.
-sets_past : (xs buffer : List ℕ) (at : ℕ) → length buffer ≤ at → sets buffer at xs ≡ buffer
-sets_past [] buffer at h = refl
-sets_past (x ∷ xs) buffer at h =
-    ap (λ (l : List ℕ). sets l (suc at) xs) (set_out buffer at x h)
-    ∙ sets_past xs buffer (suc at) (omega arith)
-
-sets_last : (xs buffer : List ℕ) (at : ℕ) → length buffer ≤ last_place
-    → sets buffer (min (at + 1) last_place) xs ≡ sets buffer (suc at) xs
-sets_last xs buffer at short = go (dec_lt at last_place)
-  where
-    go : Dec (at < last_place) → sets buffer (min (at + 1) last_place) xs ≡ sets buffer (suc at) xs
-    go (yes near) = ap (λ (k : ℕ). sets buffer k xs) (omega arith)
-    go (no far) =
-        sets_past xs buffer (min (at + 1) last_place) (omega arith)
-        ∙ sym (sets_past xs buffer (suc at) (omega arith))
-
 -- What a page holds then, from any place on.
 pub added_puts : (p : Page) (xs : List ℕ) → length p.out.now ≤ last_place → p.at ≤ last_place
     → Puts p.at xs p.out.now (added p xs).at (added p xs).out.now
@@ -74,7 +56,9 @@ added_puts p (x ∷ xs) short near =
     record {
       short = short;
       next_is = omega (arith, more.next_is);
-      bytes_are = more.bytes_are ∙ sets_last xs (set p.out.now p.at x) p.at few;
+      bytes_are =
+          more.bytes_are ∙ sets_last xs (set p.out.now p.at x) (p.at + 1) few
+          ∙ ap (λ (k : ℕ). sets (set p.out.now p.at x) k xs) (add-one p.at);
     }
 
 -- And from the front of its buffer on, where there are fewer bytes than places.

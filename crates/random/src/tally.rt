@@ -2,7 +2,7 @@
 // set of bits.
 use crate::tables::{Case, TABLES, any_case};
 use std::io;
-use table::{Outcome, Refusal};
+use table::Refusal;
 
 // No program prints more lines.
 pub const LINES: usize = 32;
@@ -50,8 +50,8 @@ pub fn unless(same: bool, n: u32) -> u32 {
     if same { 0 } else { 1u32.wrapping_shl(n) }
 }
 
-// A call that is refused with a number and no line.
-pub fn refused(number: u8) -> Outcome {
+// What a call gives that is refused with a number and no line.
+pub fn refused<T>(number: u8) -> Result<T, Refusal> {
     Err(Refusal { number, line: 0 })
 }
 

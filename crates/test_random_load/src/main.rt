@@ -4,84 +4,75 @@
 
 mod loads;
 
-use load::Totals;
-use loads::{
-    MOST_TICKS, any_start, any_ticks, right_totals, run_number, same_totals, strike_totals,
-};
+use loads::{MOST_TICKS, any_start, any_ticks, right_totals, run_outcome, struck_totals};
 use random::numbers::{mixed, one_in};
-use random::tables::{TABLES, any_case};
-use random::tally::{
-    Tally, more, none, one_more_if, print, print_difference, reported, same_number, unless,
-};
+use random::tables::Case;
+use random::tally::{Tally, print_difference, reported, try_all, unless};
 use std::io;
-use table::MOST_ROWS;
 
-// The lines by their places: runs, and those of them that agreed; how often a total was changed, and
-// how often this was noticed; runs that were refused, and those of as many ticks as there may be;
-// and the triggers realised in the runs.
-const RUNS: usize = 0;
-
-const AGREED: usize = 1;
-
-const CHANGED: usize = 2;
-
-const NOTICED: usize = 3;
-
-const REFUSED: usize = 4;
-
-const LONGEST: usize = 5;
-
-const REALISED: usize = 6;
-
-// With the triggers that the rows realised.
-fn with_realised(tally: Tally, totals: [Totals; MOST_ROWS]) -> Tally {
-    let mut next = tally;
-    for i in 0..MOST_ROWS {
-        let row = totals[i];
-        next = more(next, REALISED, row.realised as u32);
-    }
-    next
+// The lines, in the order in which they are printed: runs, and those of them that agreed; how often
+// a total was changed, and how often this was noticed; runs that were refused, and those of as many
+// ticks as there may be; and the triggers realised in the runs.
+#[derive(Clone, Copy, Debug, PartialEq, Eq)]
+enum Line {
+    Runs,
+    Agreed,
+    Changed,
+    Noticed,
+    Refused,
+    Longest,
+    Realised,
 }
+
+impl From<Line> for usize {
+    fn from(line: Line) -> usize {
+        line as usize
+    }
+}
+
+// The words of the lines.
+const WORDS: [&str; 7] = [
+    "runs of a load ",
+    "agreed ",
+    "  with a total changed ",
+    "  of these noticed ",
+    "refused ",
+    "of 65535 ticks ",
+    "triggers realised in them ",
+];
 
 // Runs a table for some ticks from some number, compares, and counts it. In one table of twenty a
 // total in the answer is changed first.
-fn run(rt: &impl Print, number: u64, tally: Tally) -> io::Result<Tally> {
-    let case = any_case(number);
+fn attempt(rt: &impl Print, case: Case, tally: &mut Tally) -> io::Result<()> {
     let own = mixed(case.seed ^ 7);
     let start = any_start(own ^ 1);
     let ticks = any_ticks(own ^ 2);
     let changed = one_in(own ^ 3, 20);
-    let refusal = run_number(case.valid, ticks);
-    let right = right_totals(case.given, refusal == 0, start, ticks);
+    let outcome = run_outcome(case.valid, ticks);
+    let taken = outcome.is_ok();
+    let right = right_totals(&case.given, taken, start, ticks);
     let ran = load::run(case.given, start, ticks);
-    let outcome = ran.outcome;
-    let totals = ran.totals;
-    let same = same_totals(strike_totals(own ^ 4, totals, changed), right);
-    let differs = unless(same_number(outcome, refusal), 1) | reported(changed, unless(same, 2));
+    let totals = if changed {
+        struck_totals(own ^ 4, ran.totals)
+    } else {
+        ran.totals
+    };
+    let same = totals == right;
+    let differs = unless(ran.outcome == outcome, 1) | reported(changed, unless(same, 2));
     let words = ["a changed total ", "refusal ", "totals "];
-    print_difference(rt, &words, differs, tally.lines[RUNS])?;
-    let mut next = one_more_if(tally, RUNS, true);
-    next = one_more_if(next, AGREED, differs == 0);
-    next = one_more_if(next, CHANGED, changed);
-    next = one_more_if(next, NOTICED, changed & !same);
-    next = one_more_if(next, REFUSED, refusal != 0);
-    next = one_more_if(next, LONGEST, (refusal == 0) & (ticks == MOST_TICKS));
-    Ok(with_realised(next, right))
+    print_difference(rt, &words, differs, tally.lines[0])?;
+    tally.one_more_if(Line::Runs, true);
+    tally.one_more_if(Line::Agreed, differs == 0);
+    tally.one_more_if(Line::Changed, changed);
+    tally.one_more_if(Line::Noticed, changed & !same);
+    tally.one_more_if(Line::Refused, !taken);
+    tally.one_more_if(Line::Longest, taken & (ticks == MOST_TICKS));
+    for row in right {
+        tally.more(Line::Realised, usize::from(row.realised));
+    }
+    Ok(())
 }
 
 fn main(rt: HostRuntime) -> io::Result<()> {
-    let mut tally = none();
-    for number in 0..TABLES {
-        tally = run(&rt, number, tally)?;
-    }
-    let words = [
-        "runs of a load ",
-        "agreed ",
-        "  with a total changed ",
-        "  of these noticed ",
-        "refused ",
-        "of 65535 ticks ",
-        "triggers realised in them ",
-    ];
-    print(&rt, tally, &words)
+    try_all(&rt, &WORDS, |case, tally| attempt(&rt, case, tally))
 }

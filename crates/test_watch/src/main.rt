@@ -12,13 +12,11 @@ mod runs;
 mod show;
 mod ways;
 
-ghost use Rattle.std.specs.Prelude.{◌≤◌};
-
 use pass::Watch;
 use rows::{one_row, one_signal, row_brief, row_done, row_lapse, row_p, row_q, row_s, row_stand};
 use std::io;
 use step::Phase;
-use table::{Name, Table};
+use table::Table;
 use watcher::Played;
 use ways::Tally;
 
@@ -36,45 +34,14 @@ fn print_letters(rt: &impl Print, trace: &[u8]) -> io::Result<()> {
     Ok(())
 }
 
-// Where the first digit of a number stands in six places; past them for 0.
-fn first_place(digits: u32) -> usize
-    ensures { result ≤ 6 }
-{
-    if 99999 < digits {
-        0
-    } else if 9999 < digits {
-        1
-    } else if 999 < digits {
-        2
-    } else if 99 < digits {
-        3
-    } else if 9 < digits {
-        4
-    } else if 0 < digits {
-        5
-    } else {
-        6
-    }
-}
-
-// Plays a trace, given as a number: its digits are the letters, and 0 stands for no letter at all.
+// Plays a trace.
 fn print_play(
     rt: &impl Print,
-    tally: Tally,
+    tally: &mut Tally,
     table: Table,
     watch: Watch,
-    digits: u32,
-) -> io::Result<Tally> {
-    let letters = [
-        (digits / 100000 % 10) as u8,
-        (digits / 10000 % 10) as u8,
-        (digits / 1000 % 10) as u8,
-        (digits / 100 % 10) as u8,
-        (digits / 10 % 10) as u8,
-        (digits % 10) as u8,
-    ];
-    let first = first_place(digits);
-    let trace: &[u8] = &letters[first..];
+    trace: &[u8],
+) -> io::Result<()> {
     print_letters(rt, trace)?;
     print!(rt; ": ")?;
     print_answer(rt, watcher::play(table, watch, trace))?;
@@ -83,30 +50,29 @@ fn print_play(
 
 pub(crate) fn print_case(
     rt: &impl Print,
-    tally: Tally,
+    tally: &mut Tally,
     name: &str,
     table: Table,
     watch: Watch,
-    digits: u32,
-) -> io::Result<Tally> {
+    trace: &[u8],
+) -> io::Result<()> {
     print!(rt; "{name}")?;
-    print_play(rt, tally, table, watch, digits)
+    print_play(rt, tally, table, watch, trace)
 }
 
 // Plays traces from a state.
 pub(crate) fn print_cases(
     rt: &impl Print,
-    tally: Tally,
+    tally: &mut Tally,
     name: &str,
     table: Table,
     watch: Watch,
-    traces: &[u32],
-) -> io::Result<Tally> {
-    let mut last = tally;
+    traces: &[&[u8]],
+) -> io::Result<()> {
     for trace in traces {
-        last = print_case(rt, last, name, table, watch, *trace)?;
+        print_case(rt, tally, name, table, watch, trace)?;
     }
-    Ok(last)
+    Ok(())
 }
 
 fn with_code(code: u8) -> Watch {
@@ -118,86 +84,98 @@ fn with_code(code: u8) -> Watch {
 // A case whose name is the code at which it begins.
 fn print_code(
     rt: &impl Print,
-    tally: Tally,
+    tally: &mut Tally,
     table: Table,
     code: u8,
-    digits: u32,
-) -> io::Result<Tally> {
+    trace: &[u8],
+) -> io::Result<()> {
     print!(rt; "code {code}")?;
-    print_play(rt, tally, table, with_code(code), digits)
+    print_play(rt, tally, table, with_code(code), trace)
 }
 
 // 17: a bound that no file has comes before a state and a letter that do not fit either.
-fn rules_refused(rt: &impl Print, tally: Tally) -> io::Result<Tally> {
+fn rules_refused(rt: &impl Print, tally: &mut Tally) -> io::Result<()> {
     let start = watcher::start();
     let p = one_row(row_p());
     let mut long = row_p();
     long.lmax = 61;
-    let mut last = print_case(rt, tally, "bound 61", one_row(long), with_code(200), 4)?;
+    print_case(rt, tally, "bound 61", one_row(long), with_code(200), &[4])?;
     let mut none = p;
     none.count = 0;
-    last = print_case(rt, last, "no rows", none, start, 1)?;
+    print_case(rt, tally, "no rows", none, start, &[1])?;
     let mut far = row_p();
     far.sets[5] = 16;
-    print_case(rt, last, "letter 4 in a set", one_row(far), start, 1)
+    print_case(rt, tally, "letter 4 in a set", one_row(far), start, &[1])
 }
 
 // 18 comes before 19; code 255 is accepted.
-fn states_refused(rt: &impl Print, tally: Tally) -> io::Result<Tally> {
+fn states_refused(rt: &impl Print, tally: &mut Tally) -> io::Result<()> {
     let start = watcher::start();
     let p = one_row(row_p());
-    let mut last = print_code(rt, tally, p, 200, 4)?;
-    last = print_code(rt, last, p, 62, 1)?;
-    last = print_code(rt, last, p, 61, 2)?;
-    last = print_code(rt, last, p, 255, 2)?;
+    print_code(rt, tally, p, 200, &[4])?;
+    print_code(rt, tally, p, 62, &[1])?;
+    print_code(rt, tally, p, 61, &[2])?;
+    print_code(rt, tally, p, 255, &[2])?;
     let mut unused = start;
     unused.slots[1] = Phase::Broken;
-    print_case(rt, last, "unused row", p, unused, 1)
+    print_case(rt, tally, "unused row", p, unused, &[1])
 }
 
-fn letters_refused(rt: &impl Print, tally: Tally) -> io::Result<Tally> {
+fn letters_refused(rt: &impl Print, tally: &mut Tally) -> io::Result<()> {
     let start = watcher::start();
     let p = one_row(row_p());
     let fourth = "letter 4";
-    let mut last = print_case(rt, tally, fourth, p, start, 124)?;
-    last = print_case(rt, last, fourth, p, with_code(61), 24)?;
+    print_case(rt, tally, fourth, p, start, &[1, 2, 4])?;
+    print_case(rt, tally, fourth, p, with_code(61), &[2, 4])?;
     let one = "one signal";
-    last = print_case(rt, last, one, one_signal(), start, 10)?;
-    print_case(rt, last, one, one_signal(), start, 12)
+    print_case(rt, tally, one, one_signal(), start, &[1, 0])?;
+    print_case(rt, tally, one, one_signal(), start, &[1, 2])
 }
 
 // Number 17 of a table value looks at the names; of rows that are lent it knows the number of
 // signals alone, so here the ways differ.
-fn names_refused(rt: &impl Print, tally: Tally) -> io::Result<Tally> {
+fn names_refused(rt: &impl Print, tally: &mut Tally) -> io::Result<()> {
     let mut named = one_row(row_p());
-    named.names[5] = Name {
-        chars: [b'a', 0, 0, 0, 0, 0, 0, 0],
-    };
-    print_case(rt, tally, "unused name", named, watcher::start(), 1)
+    named.names[5].chars[0] = b'a';
+    print_case(rt, tally, "unused name", named, watcher::start(), &[1])
 }
 
 // The first boards.
-fn boards(rt: &impl Print, tally: Tally) -> io::Result<Tally> {
+fn boards(rt: &impl Print, tally: &mut Tally) -> io::Result<()> {
     let start = watcher::start();
     let p = one_row(row_p());
     let q = one_row(row_q());
     let s = one_row(row_s());
-    let mut last = print_cases(rt, tally, "P", p, start, &[0, 1, 12, 10, 101, 13])?;
-    last = print_cases(rt, last, "Q", q, start, &[113, 13, 1111, 1113, 10])?;
-    print_cases(rt, last, "S", s, start, &[3, 1, 33, 322])
+    print_cases(
+        rt,
+        tally,
+        "P",
+        p,
+        start,
+        &[&[], &[1], &[1, 2], &[1, 0], &[1, 0, 1], &[1, 3]],
+    )?;
+    print_cases(
+        rt,
+        tally,
+        "Q",
+        q,
+        start,
+        &[&[1, 1, 3], &[1, 3], &[1, 1, 1, 1], &[1, 1, 1, 3], &[1, 0]],
+    )?;
+    print_cases(rt, tally, "S", s, start, &[&[3], &[1], &[3, 3], &[3, 2, 2]])
 }
 
 // A trigger that starts and is over at one letter.
-fn at_once(rt: &impl Print, tally: Tally) -> io::Result<Tally> {
+fn at_once(rt: &impl Print, tally: &mut Tally) -> io::Result<()> {
     let start = watcher::start();
     let lapse = one_row(row_lapse());
     let stand = one_row(row_stand());
-    let last = print_case(rt, tally, "aborted as it starts", lapse, start, 1)?;
-    print_cases(rt, last, "every letter", stand, start, &[1, 10])
+    print_case(rt, tally, "aborted as it starts", lapse, start, &[1])?;
+    print_cases(rt, tally, "every letter", stand, start, &[&[1], &[1, 0]])
 }
 
 // Triggers that began at an earlier tick and abort where their start holds (document 02, ask 4).
-fn pressed(rt: &impl Print, tally: Tally) -> io::Result<Tally> {
+fn pressed(rt: &impl Print, tally: &mut Tally) -> io::Result<()> {
     let start = watcher::start();
     let q = one_row(row_q());
     let brief = one_row(row_brief());
@@ -205,40 +183,52 @@ fn pressed(rt: &impl Print, tally: Tally) -> io::Result<Tally> {
     // Phases 1 2 3, then 1, aborted and started, 2, and 255, realised and broken. After 1 and the
     // letter 2, at which the start does not hold, 0, aborted.
     let again = "Q pressed again";
-    let mut last = print_cases(
+    print_cases(
         rt,
         tally,
         again,
         q,
         start,
-        &[1, 11, 111, 1111, 11111, 111113, 12],
+        &[
+            &[1],
+            &[1, 1],
+            &[1, 1, 1],
+            &[1, 1, 1, 1],
+            &[1, 1, 1, 1, 1],
+            &[1, 1, 1, 1, 1, 3],
+            &[1, 2],
+        ],
     )?;
     // Phases 1, then 0, aborted and started: the second check aborts as well. Then 0, started and
     // aborted: a trigger that aborts in the tick it began starts no other.
-    last = print_cases(rt, last, "aborted twice", brief, start, &[3, 31, 311])?;
+    print_cases(
+        rt,
+        tally,
+        "aborted twice",
+        brief,
+        start,
+        &[&[3], &[3, 1], &[3, 1, 1]],
+    )?;
     // Phases 1, then 0, realised, acting, completed: what is no abort starts no other.
     print_cases(
         rt,
-        last,
+        tally,
         "completed as it is realised",
         done,
         start,
-        &[1, 13],
+        &[&[1], &[1, 3]],
     )
 }
 
 fn main(rt: HostRuntime) -> io::Result<()> {
-    let mut tally = Tally {
-        alike: 0,
-        unlike: 0,
-    };
-    tally = boards(&rt, tally)?;
-    tally = at_once(&rt, tally)?;
-    tally = pressed(&rt, tally)?;
-    tally = rules_refused(&rt, tally)?;
-    tally = states_refused(&rt, tally)?;
-    tally = letters_refused(&rt, tally)?;
-    tally = names_refused(&rt, tally)?;
-    tally = eight::print_eight(&rt, tally)?;
+    let mut tally = Tally::default();
+    boards(&rt, &mut tally)?;
+    at_once(&rt, &mut tally)?;
+    pressed(&rt, &mut tally)?;
+    rules_refused(&rt, &mut tally)?;
+    states_refused(&rt, &mut tally)?;
+    letters_refused(&rt, &mut tally)?;
+    names_refused(&rt, &mut tally)?;
+    eight::print_eight(&rt, &mut tally)?;
     ways::print_tally(&rt, tally)
 }

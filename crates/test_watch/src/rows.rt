@@ -1,5 +1,5 @@
 // The rows of the cases and tables of them, with the signals `a c`.
-use table::{Name, Row, Table};
+use table::{Row, Table};
 
 // The conditions of the rows, as sets of the four letters: `a` holds at 1 and 3, `c` at 2 and 3.
 pub(crate) const A: u64 = 10;
@@ -13,12 +13,9 @@ pub(crate) const ALWAYS: u64 = 15;
 pub(crate) fn row_p() -> Row {
     Row {
         sets: [A, A, A, C, C, C],
-        tmin: 0,
-        tmax: 0,
         lmin: 1,
         lmax: 1,
-        amin: 0,
-        amax: 0,
+        ..Row::default()
     }
 }
 
@@ -27,22 +24,16 @@ pub(crate) fn row_q() -> Row {
         sets: [A, A, C, NEVER, NEVER, NEVER],
         tmin: 2,
         tmax: 3,
-        lmin: 0,
-        lmax: 0,
-        amin: 0,
-        amax: 0,
+        ..Row::default()
     }
 }
 
 pub(crate) fn row_s() -> Row {
     Row {
         sets: [A, A, A, ALWAYS, C, A],
-        tmin: 0,
-        tmax: 0,
-        lmin: 0,
-        lmax: 0,
         amin: 1,
         amax: 2,
+        ..Row::default()
     }
 }
 
@@ -50,12 +41,7 @@ pub(crate) fn row_s() -> Row {
 pub(crate) fn row_lapse() -> Row {
     Row {
         sets: [A, NEVER, NEVER, A, A, A],
-        tmin: 0,
-        tmax: 0,
-        lmin: 0,
-        lmax: 0,
-        amin: 0,
-        amax: 0,
+        ..Row::default()
     }
 }
 
@@ -63,12 +49,7 @@ pub(crate) fn row_lapse() -> Row {
 pub(crate) fn row_stand() -> Row {
     Row {
         sets: [ALWAYS, ALWAYS, ALWAYS, A, A, A],
-        tmin: 0,
-        tmax: 0,
-        lmin: 0,
-        lmax: 0,
-        amin: 0,
-        amax: 0,
+        ..Row::default()
     }
 }
 
@@ -76,12 +57,8 @@ pub(crate) fn row_stand() -> Row {
 pub(crate) fn row_brief() -> Row {
     Row {
         sets: [A, C, NEVER, NEVER, NEVER, NEVER],
-        tmin: 0,
         tmax: 3,
-        lmin: 0,
-        lmax: 0,
-        amin: 0,
-        amax: 0,
+        ..Row::default()
     }
 }
 
@@ -91,55 +68,32 @@ pub(crate) fn row_done() -> Row {
         sets: [A, A, C, ALWAYS, ALWAYS, ALWAYS],
         tmin: 1,
         tmax: 3,
-        lmin: 0,
-        lmax: 0,
-        amin: 0,
-        amax: 0,
+        ..Row::default()
     }
 }
 
 // A table with one row and the signals `a c`.
 pub(crate) fn one_row(row: Row) -> Table {
-    let no_name = Name { chars: [0u8; 8] };
-    let no_row = Row {
-        sets: [0u64; 6],
-        tmin: 0,
-        tmax: 0,
-        lmin: 0,
-        lmax: 0,
-        amin: 0,
-        amax: 0,
-    };
-    let mut names = [no_name; 6];
-    names[0] = Name {
-        chars: [b'a', 0, 0, 0, 0, 0, 0, 0],
-    };
-    names[1] = Name {
-        chars: [b'c', 0, 0, 0, 0, 0, 0, 0],
-    };
-    let mut rows = [no_row; 8];
-    rows[0] = row;
-    Table {
+    let mut table = Table {
         signals: 2,
-        names,
         count: 1,
-        rows,
-    }
+        ..Table::default()
+    };
+    table.names[0].chars[0] = b'a';
+    table.names[1].chars[0] = b'c';
+    table.rows[0] = row;
+    table
 }
 
 // One signal: the row `a,a,a,0,0,1,1,!a,!a,!a,0,0`.
 pub(crate) fn one_signal() -> Table {
-    let row = Row {
+    let mut table = one_row(Row {
         sets: [2, 2, 2, 1, 1, 1],
-        tmin: 0,
-        tmax: 0,
         lmin: 1,
         lmax: 1,
-        amin: 0,
-        amax: 0,
-    };
-    let mut table = one_row(row);
+        ..Row::default()
+    });
     table.signals = 1;
-    table.names[1] = Name { chars: [0u8; 8] };
+    table.names[1].chars[0] = 0;
     table
 }
