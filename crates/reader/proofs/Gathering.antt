@@ -91,19 +91,6 @@ module _ (names : List Name) (signals : ℕ) (version : Version) (rest : List �
       pub sets_kept : sets ≡ sets_of reads
       pub bounds_kept : bounds ≡ bounds_of reads
 
-  pub gathering_starts : Gathering [] (replicate most_rows no_sets) (replicate most_rows no_sets) 0 0
-  gathering_starts = record {
-    rows = same (rows_from names signals version 0 (lines rest));
-    many = refl;
-    few = omega arith;
-    sets_kept = refl;
-    bounds_kept = refl;
-  }
-    where
-      same : (rows : Rows) → rows ≡ after_rows [] rows
-      same (rows_read rows) = refl
-      same (fault number line) = refl
-
   module _ (reads : List RowRead) (sets bounds : List (List ℕ)) (n at : ℕ)
       (g : Gathering reads sets bounds n at) where
     abbrev line : List ℕ

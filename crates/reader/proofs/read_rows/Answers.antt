@@ -1,7 +1,5 @@
 -- `reader::read_rows` meets its contract. Assumes nothing.
 use Prim.Native.Nat.{ℕ, ◌≤◌, ◌-◌, ◌+◌}
-use borrow.Author.Tests.{eqb-false}
-use borrow.Author.Rules.{rules}
 use native.Mathlib.Omega.{arith}
 use mathlib.Core.List.{List, [], ◌∷◌, ◌++◌}
 use mathlib.Core.Path.{◌≡◌, sym, ap, ap₂, ◌∙◌}
@@ -21,7 +19,7 @@ use Rattle.rows.specs.declared.RowRead.{RowRead}
 use Rattle.reader.specs.Inner.File.{row_of}
 use Rattle.reader.proofs.Lines.{on_line_ok, on_line_err}
 use Rattle.reader.proofs.Gathering.{rows_fault, rows_accepted}
-use Rattle.reader.proofs.Gathering.{gathering_starts, gathering_next, gathering_fault}
+use Rattle.reader.proofs.Gathering.{gathering_next, gathering_fault}
 use Rattle.reader.proofs.Gathering.{gathering_ninth, gathering_ends, gathered_all}
 use Rattle.reader.proofs.read_rows.Goals as goal
 
@@ -47,11 +45,6 @@ module _ (whole : List ℕ) (at : ℕ) {n : ℕ}
       (front LF (drop at whole)) ≡ read
   read_is signals version e =
       sym (e ∙ ap (row_answer (take signals.count signals.names) (width signals.count) version) part)
-
-pub loop-at-init : goal.loop-at-init
-loop-at-init c =
-    let some = eqb-false _ 0 (sym c.if-is_empty.ensures) in
-    ([], (gathering_starts _ _ _ _, (search rules, omega (arith, some))))
 
 pub returns-then-i-ge-MOST_ROWS : goal.returns-then-i-ge-MOST_ROWS
 returns-then-i-ge-MOST_ROWS c =
