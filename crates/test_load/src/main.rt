@@ -100,7 +100,7 @@ fn largest_sums(rt: &impl Print, count: u8) -> io::Result<()> {
 }
 
 // A text and its length. What it has no place for is not in it.
-#[derive(Clone, Copy)]
+#[derive(Clone, Copy, Debug, PartialEq, Eq)]
 struct Text {
     length: usize,
     bytes: [u8; ROOM],

@@ -1,5 +1,5 @@
 // The tables of the cases, with the signals `a c`.
-use table::{MOST_ROWS, Name, Row, Table};
+use table::{MOST_ROWS, Row, Table};
 
 // The conditions of the rows, as sets of the four letters: `a` holds at 1 and 3, `c` at 2 and 3.
 const A: u64 = 10;
@@ -16,21 +16,17 @@ const ALWAYS: u64 = 15;
 fn at_once(sets: [u64; 6]) -> Row {
     Row {
         sets,
-        tmin: 0,
-        tmax: 0,
-        lmin: 0,
-        lmax: 0,
-        amin: 0,
-        amax: 0,
+        ..Row::default()
     }
 }
 
 // The same, with a delay of one tick.
 fn after_one(sets: [u64; 6]) -> Row {
-    let mut row = at_once(sets);
-    row.lmin = 1;
-    row.lmax = 1;
-    row
+    Row {
+        lmin: 1,
+        lmax: 1,
+        ..at_once(sets)
+    }
 }
 
 fn row_p() -> Row {
@@ -38,42 +34,37 @@ fn row_p() -> Row {
 }
 
 fn row_q() -> Row {
-    let mut row = at_once([A, A, C, NEVER, NEVER, NEVER]);
-    row.tmin = 2;
-    row.tmax = 3;
-    row
+    Row {
+        tmin: 2,
+        tmax: 3,
+        ..at_once([A, A, C, NEVER, NEVER, NEVER])
+    }
 }
 
 fn row_s() -> Row {
-    let mut row = at_once([A, A, A, ALWAYS, C, A]);
-    row.amin = 1;
-    row.amax = 2;
-    row
+    Row {
+        amin: 1,
+        amax: 2,
+        ..at_once([A, A, A, ALWAYS, C, A])
+    }
 }
 
 // A table of the first `count` rows.
 fn table_of(rows: [Row; MOST_ROWS], count: u8) -> Table {
-    let no_name = Name { chars: [0u8; 8] };
-    let mut names = [no_name; 6];
-    names[0] = Name {
-        chars: [b'a', 0, 0, 0, 0, 0, 0, 0],
-    };
-    names[1] = Name {
-        chars: [b'c', 0, 0, 0, 0, 0, 0, 0],
-    };
-    Table {
+    let mut table = Table {
         signals: 2,
-        names,
         count,
         rows,
-    }
+        ..Table::default()
+    };
+    table.names[0].chars[0] = b'a';
+    table.names[1].chars[0] = b'c';
+    table
 }
 
 fn three_rows(first: Row, second: Row, third: Row) -> Table {
-    let mut rows = [at_once([NEVER; 6]); MOST_ROWS];
-    rows[0] = first;
-    rows[1] = second;
-    rows[2] = third;
+    let mut rows = [Row::default(); MOST_ROWS];
+    rows[..3].copy_from_slice(&[first, second, third]);
     table_of(rows, 3)
 }
 
