@@ -26,6 +26,7 @@ const LOAD_TICKS: u32 = 1000;
 // Reads the file, searches its table with the scratch, the index and the trace buffer that are
 // lent, writes the report from the front of `out`, and answers the report's length. If that is more
 // than `out` holds, `out` has the report's front. The lent memory of a refused file is unchanged.
+// Kept: the four lent lists apart, as the contract's `lent_lists` and the search take them.
 pub fn check(
     bytes: &[u8],
     states: &mut [u64],

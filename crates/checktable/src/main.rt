@@ -8,6 +8,7 @@ use std::io;
 // No report is longer: `most_report` of the crate checker.
 const MOST_REPORT: usize = 70000;
 
+// Kept: like its two twins: one generic over maker, buffer and words would be no plainer.
 fn print_report(rt: &(impl Print + Eprint), file: &[u8]) -> io::Result<()> {
     let mut report = [0u8; MOST_REPORT];
     let length = checker::check_file(file, &mut report);

@@ -36,6 +36,7 @@ pub fn read_all<R: Read>(reader: &mut R, file: &mut [u8]) -> io::Result<usize>
     ensures fits { Fits result file.new }
 {
     let mut done: usize = 0;
+    // Kept: a while, as each call brings as many bytes as the reader likes: no chain is plainer.
     while done < file.len() {
         let n = read_piece(reader, file, done)?;
         if n == 0 {

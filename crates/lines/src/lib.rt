@@ -46,6 +46,7 @@ fn tick_line(page: &mut Page, signals: u8, tick: u16, letter: u8)
 }
 
 // A line for each of the first `length` letters of the trace.
+// Kept: trace and length apart: of a slice alone it would have to ask that u16 counts its letters.
 #[tactic(auto, using(crate::proofs::Turns::ticks), unfolding(put::specs::Inner::Page::added, text::specs::Lines::ended, crate::specs::Line::tick_lines))]
 pub fn tick_lines(page: &mut Page, signals: u8, trace: &[u8], length: u16)
     ensures { page.new ≡ added page.old (ended (tick_lines signals 1 (take length trace.now))) }

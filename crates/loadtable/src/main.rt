@@ -8,6 +8,7 @@ use std::io;
 // No text is longer: `most_totals` of the crate checker.
 const MOST_TOTALS: usize = 1000;
 
+// Kept: like its two twins: one generic over maker, buffer and words would be no plainer.
 fn print_totals(rt: &(impl Print + Eprint), file: &[u8]) -> io::Result<()> {
     let mut totals = [0u8; MOST_TOTALS];
     let length = checker::load_file(file, &mut totals);

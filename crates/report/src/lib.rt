@@ -56,6 +56,7 @@ fn report(page: &mut Page, found: Found, rows: u8, signals: u8, trace: &[u8])
 // Writes the report of a table with so many rows and signals from the buffer's front, and answers
 // its length. The trace of a trap is at the front of the trace buffer. An `out` that is shorter
 // than the report holds as much as it takes; the rest of a longer one is unchanged.
+// Kept: rows and signals apart, as the contract's `report_bytes` has them.
 #[tactic(auto, using(crate::proofs::Lengths::whole_report))]
 pub fn write(found: Found, rows: u8, signals: u8, trace: &[u8], out: &mut [u8]) -> usize
     ensures value { result ≡ length (report_bytes rows signals trace.now found) }

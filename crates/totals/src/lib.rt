@@ -45,6 +45,7 @@ fn row_line(page: &mut Page, row: u32, totals: Totals)
 }
 
 // The lines of the first `rows` rows, or of all if there are fewer.
+// Kept: totals and a count, as a run gives totals and its table the count of rows.
 #[tactic(auto, using(crate::proofs::Turns::row_turns), unfolding(crate::specs::Totals::totals_lines))]
 fn row_lines(page: &mut Page, totals: &[Totals], rows: u8)
     ensures puts { page.new ≡ added page.old (ended (totals_lines 1 (take rows totals.now))) }

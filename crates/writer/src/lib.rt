@@ -16,6 +16,7 @@ use table::{FIELDS, MOST_BYTES, MOST_SIGNALS, Name, Outcome, Refusal, Row, Signa
 use text::LF;
 
 // Whether a table was written, and how long its file is: 0 where it was not.
+// Kept: an outcome beside a value, of which theorems speak on refusal too (`write_17`).
 #[derive(Clone, Copy, Debug, PartialEq, Eq)]
 pub struct Written {
     pub outcome: Outcome,
@@ -201,6 +202,7 @@ fn put_file(page: &mut Page, table: &Table)
     put_rows(page, &signals, &table.rows, table.count);
 }
 
+// Kept: numbers, by which documents, theorems and reports name a refusal.
 fn refused(number: u8) -> Written
     ensures { result ≡ not_written number }
 {

@@ -8,6 +8,7 @@ use std::io;
 // No file is longer: `most_bytes` of the crate table.
 const MOST_BYTES: usize = 4096;
 
+// Kept: like its two twins: one generic over maker, buffer and words would be no plainer.
 fn print_file(rt: &(impl Print + Eprint), file: &[u8]) -> io::Result<()> {
     let mut written = [0u8; MOST_BYTES];
     let length = checker::write_file(file, &mut written);
