@@ -33,12 +33,20 @@ fn is_at(s: &[u8], at: usize, b: u8) -> bool
     s.get(at) == Some(&b)
 }
 
+// The bytes from a place on. They are cut off: to skip those before them goes through each.
+#[tactic(auto, using(std::proofs::lemmas::List::drop_min))]
+fn rest_of(s: &[u8], at: usize) -> &[u8]
+    ensures { result.now ≡ drop at s.now }
+{
+    &s[at.min(s.len())..]
+}
+
 // How many letters stand at a place.
 fn run_at(s: &[u8], at: usize) -> usize
     ensures { result ≡ prefix_len is_lowercase (drop at s.now) }
 {
-    s.iter()
-        .skip(at)
+    rest_of(s, at)
+        .iter()
         .take_while(|b| b.is_ascii_lowercase())
         .count()
 }
@@ -47,7 +55,7 @@ fn run_at(s: &[u8], at: usize) -> usize
 fn signs_at(s: &[u8], at: usize) -> usize
     ensures { result ≡ prefix_len (λ b. eqb b not_sign) (drop at s.now) }
 {
-    s.iter().skip(at).take_while(|b| **b == b'!').count()
+    rest_of(s, at).iter().take_while(|b| **b == b'!').count()
 }
 
 // The first n bytes as a name: at most eight of them, then zeros.

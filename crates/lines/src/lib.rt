@@ -28,9 +28,10 @@ pub fn numbered(page: &mut Page, word: &[u8], n: u16)
 fn signal_values(page: &mut Page, signals: u8, letter: u8)
     ensures { page.new ≡ added page.old (signal_values signals 0 letter) }
 {
-    for k in 0..signals {
-        let on = letters::contains(u64::from(letter), k);
-        page.byte(if on { b'1' } else { b'0' });
+    let mut rest = letter;
+    for _ in 0..signals {
+        page.byte(b'0' + rest % 2);
+        rest /= 2;
     }
 }
 

@@ -24,6 +24,16 @@ pub added_more : (p : Page) (xs : List ℕ) (i : ℕ) → i < length xs
     → added p (take (i + 1) xs) ≡ added (added p (take i xs)) (get_or xs i 0 ∷ [])
 added_more p xs i h = rw (take_more xs i 0 h) (added_append p (take i xs) (get_or xs i 0 ∷ []))
 
+-- One byte more, where buffer and place are those of a page with the ones before it.
+module _ (begun : Page) (bytes : List ℕ) {out : MutBor (List ℕ)} {at i : ℕ}
+    (so_far : record { out = out; at = at } ≡ added begun (take i bytes)) (h : i < length bytes) where
+  pub next_byte : record {
+    out = record out { now = set out.now at (get_or bytes i 0) };
+    at = min (at + 1) last_place;
+  } ≡ added begun (take (i + 1) bytes)
+  unfolding added with_byte
+  next_byte = rw (added_more begun bytes i h, ← so_far)
+
 -- It is the same buffer.
 pub added_name : (p : Page) (xs : List ℕ) → (added p xs).out.ghost_name ≡ p.out.ghost_name
 unfolding added with_byte

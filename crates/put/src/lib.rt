@@ -28,16 +28,26 @@ impl<'a> Page<'a> {
     {
         if self.at < self.out.len() {
             self.out[self.at] = b;
+            self.at += 1;
+        } else {
+            self.at = self.at.saturating_add(1);
         }
-        self.at = self.at.saturating_add(1);
     }
 
+    // The place stands in a local meanwhile: in the page it would be stored and read for each byte.
     pub fn word(&mut self, bytes: &[u8])
         ensures { self.new ≡ added self.old bytes.now }
     {
+        let mut at = self.at;
         for b in bytes {
-            self.byte(*b);
+            if at < self.out.len() {
+                self.out[at] = *b;
+                at += 1;
+            } else {
+                at = at.saturating_add(1);
+            }
         }
+        self.at = at;
     }
 
     // A number in base ten.

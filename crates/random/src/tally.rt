@@ -1,6 +1,7 @@
 // What is counted, a place for each line that a program prints; and what differs in a table, as a
 // set of bits.
-use crate::tables::{Case, TABLES, any_case};
+ghost use Rattle.std.specs.Prelude.{◌≡◌, Err};
+
 use std::io;
 use table::Refusal;
 
@@ -51,7 +52,9 @@ pub fn unless(same: bool, n: u32) -> u32 {
 }
 
 // What a call gives that is refused with a number and no line.
-pub fn refused<T>(number: u8) -> Result<T, Refusal> {
+pub fn refused<T>(number: u8) -> Result<T, Refusal>
+    ensures { result ≡ Err (record { number = number; line = 0 }) }
+{
     Err(Refusal { number, line: 0 })
 }
 
@@ -83,19 +86,4 @@ pub fn print_difference(
         left /= 2;
     }
     println!(rt; "differ in table {number}")
-}
-
-// Tries all random tables, and prints what was counted, each number after its words.
-pub fn try_all<F: FnMut(Case, &mut Tally) -> io::Result<()>>(
-    rt: &impl Print,
-    words: &[&str],
-    mut attempt: F,
-) -> io::Result<()>
-    requires { F.IsAlwaysCallable attempt }
-{
-    let mut tally = Tally::default();
-    for number in 0..TABLES {
-        attempt(any_case(number), &mut tally)?;
-    }
-    tally.print(rt, words)
 }

@@ -242,7 +242,7 @@ module _ (names : List Name) (n : ℕ) (version : Version) where
 
 -- The numbers that a line can get.
 module _ (names : List Name) (n : ℕ) where
-  first_among : {kinds : List FieldKind} {fields : List (List ℕ)} {number : ℕ}
+  pub first_among : {kinds : List FieldKind} {fields : List (List ℕ)} {number : ℕ}
       → FirstFault names n kinds fields number → (11 ≤ number) × (number ≤ 14)
   first_among (no_condition {xs} {number} h) =
       among (judge_number names n xs number (right_judge names n xs (Err number) h))

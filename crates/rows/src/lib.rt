@@ -104,7 +104,7 @@ fn judge_row(v: [u64; FIELDS]) -> Result<RowRead, u8>
 fn is_rule(line: &[u8]) -> bool
     ensures { result ≡ rule_shaped line.now }
 {
-    line.starts_with(b"rule ") & (text::count_of(line, b',') == 11)
+    line.starts_with(b"rule ") && text::count_of(line, b',') == 11
 }
 
 // A row's line in a file of a version; or 10, then 11 to 14 of the first field that has one, then

@@ -1,6 +1,6 @@
 // The lists that are lent to a search: their lengths, the rubbish that they hold before it, and
 // what they should hold after it by document 01.
-ghost use Rattle.std.specs.Prelude.{◌≤◌};
+ghost use Rattle.std.specs.Prelude.{◌≡◌, ◌≤◌, length};
 
 use crate::expected::Expected;
 use random::numbers::{below, byte_below, mixed};
@@ -67,7 +67,12 @@ impl Lengths {
 
 // Lengths for a table: now and then one of the lists is too short for it. That of the index is
 // drawn by itself.
-pub fn any_lengths(seed: u64, index_seed: u64, solved: &Solved) -> Lengths {
+pub fn any_lengths(seed: u64, index_seed: u64, solved: &Solved) -> Lengths
+    ensures states_bound { result.states ≤ 512 }
+    ensures lost_bound { result.lost ≤ 512 }
+    ensures index_bound { result.index ≤ 8189 }
+    ensures trace_bound { result.trace ≤ 512 }
+{
     let own = mixed(seed);
     let short = own % 30;
     let states = any_length(own ^ 1, solved.count, short < 2);
@@ -112,7 +117,12 @@ pub struct Held {
 }
 
 // What they hold before the search.
-pub fn before_search(key: u64) -> Held {
+pub fn before_search(key: u64) -> Held
+    ensures value { 512 ≡ length result.states }
+    ensures value_2 { 512 ≡ length result.lost }
+    ensures value_3 { 8189 ≡ length result.index }
+    ensures value_4 { 512 ≡ length result.trace }
+{
     Held {
         states: array::from_fn(|i| rubbish(key ^ STATES_KEY, i)),
         lost: array::from_fn(|i| rubbish_u16(key ^ LOST_KEY, i)),

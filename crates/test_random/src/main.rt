@@ -11,8 +11,8 @@ mod tally;
 use compare::{compare_answers, compare_lists};
 use expected::expect;
 use lent::{Held, Lengths, after_search, any_lengths, before_search};
-use random::tables::Case;
-use random::tally::{Tally, reported, try_all};
+use random::tables::{Case, TABLES, any_case};
+use random::tally::{Tally, reported};
 use second::solve;
 use std::io;
 use strike::{any_strike, struck, struck_answer};
@@ -71,5 +71,9 @@ fn attempt(rt: &impl Print, case: Case, tally: &mut Tally) -> io::Result<()> {
 }
 
 fn main(rt: HostRuntime) -> io::Result<()> {
-    try_all(&rt, &WORDS, |case, tally| attempt(&rt, case, tally))
+    let mut tally = Tally::default();
+    for number in 0..TABLES {
+        attempt(&rt, any_case(number), &mut tally)?;
+    }
+    tally.print(&rt, &WORDS)
 }

@@ -6,8 +6,8 @@ mod loads;
 
 use loads::{MOST_TICKS, any_start, any_ticks, right_totals, run_outcome, struck_totals};
 use random::numbers::{mixed, one_in};
-use random::tables::Case;
-use random::tally::{Tally, print_difference, reported, try_all, unless};
+use random::tables::{Case, TABLES, any_case};
+use random::tally::{Tally, print_difference, reported, unless};
 use std::io;
 
 // The lines, in the order in which they are printed: runs, and those of them that agreed; how often
@@ -74,5 +74,9 @@ fn attempt(rt: &impl Print, case: Case, tally: &mut Tally) -> io::Result<()> {
 }
 
 fn main(rt: HostRuntime) -> io::Result<()> {
-    try_all(&rt, &WORDS, |case, tally| attempt(&rt, case, tally))
+    let mut tally = Tally::default();
+    for number in 0..TABLES {
+        attempt(&rt, any_case(number), &mut tally)?;
+    }
+    tally.print(&rt, &WORDS)
 }

@@ -7,8 +7,8 @@ mod starts;
 mod tally;
 mod watched;
 
-use random::tables::Case;
-use random::tally::{Tally, try_all};
+use random::tables::{Case, TABLES, any_case};
+use random::tally::Tally;
 use std::io;
 use tally::{WORDS, count_table};
 use watched::follow;
@@ -20,5 +20,9 @@ fn attempt(rt: &impl Print, case: Case, tally: &mut Tally) -> io::Result<()> {
 }
 
 fn main(rt: HostRuntime) -> io::Result<()> {
-    try_all(&rt, &WORDS, |case, tally| attempt(&rt, case, tally))
+    let mut tally = Tally::default();
+    for number in 0..TABLES {
+        attempt(&rt, any_case(number), &mut tally)?;
+    }
+    tally.print(&rt, &WORDS)
 }

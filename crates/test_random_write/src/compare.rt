@@ -1,20 +1,29 @@
 // What a call should answer, from what the second writer put and from what was lent, and the whole
 // buffer held against it. What differs is a set of bits, whose words tally.rt has.
+ghost use Rattle.std.specs.Prelude.{◌≤◌, length, IfOk};
+
 use crate::LONGEST;
 use random::tally::{refused, unless};
-use table::Refusal;
+use table::{MOST_BYTES, Refusal};
 use writer::Written;
 
 // What is written. "23 the file would exceed 4,096 bytes, then 24 the lent buffer is shorter than the
 // file, both after 17".
-pub fn expect(valid: bool, file: Option<&[u8]>, lent: usize) -> Result<&[u8], Refusal> {
+pub fn expect(valid: bool, file: Option<&[u8]>, lent: usize) -> Result<&[u8], Refusal>
+    ensures { IfOk result (λ put. length put.now ≤ 4096) }
+{
     if !valid {
         return refused(17);
     }
     match file {
-        None => refused(23),
-        Some(file) if lent < file.len() => refused(24),
-        Some(file) => Ok(file),
+        Some(file) if file.len() <= MOST_BYTES => {
+            if lent < file.len() {
+                refused(24)
+            } else {
+                Ok(file)
+            }
+        }
+        _ => refused(23),
     }
 }
 

@@ -14,8 +14,8 @@ use compare::{compare_answers, expect, right_bytes};
 use names::renamed;
 use random::numbers::{below, byte_below, mixed, one_in};
 use random::spoil::spoil;
-use random::tables::{Case, wide_table};
-use random::tally::{Tally, reported, try_all, unless};
+use random::tables::{Case, TABLES, any_case, wide_table};
+use random::tally::{Tally, reported, unless};
 use std::{array, io};
 use table::{MOST_BYTES, Table};
 use tally::{WORDS, count_strike, count_table};
@@ -105,5 +105,9 @@ fn run(rt: &impl Print, case: Case, tally: &mut Tally) -> io::Result<()> {
 }
 
 fn main(rt: HostRuntime) -> io::Result<()> {
-    try_all(&rt, &WORDS, |case, tally| run(&rt, case, tally))
+    let mut tally = Tally::default();
+    for number in 0..TABLES {
+        run(&rt, any_case(number), &mut tally)?;
+    }
+    tally.print(&rt, &WORDS)
 }
