@@ -10,25 +10,40 @@ use Rattle.letters.proofs.Bits.{bit_eqb}
 use Rattle.letters.proofs.Members.{members_next, members_skip, members_end}
 use Rattle.lines.specs.Line.{signal_values, tick_line, tick_lines, row_numbers}
 
--- The value of signal k, where `rest` is the letter without the signals before it, and those behind it.
-module _ (signals k letter rest : ℕ) where
-  pub values_next : k < signals → rest ≡ letter / 2 ^ k → signal_values (signals - k) k letter
-      ≡ (48 + rest % 2) ∷ signal_values (signals - (k + 1)) (k + 1) letter
-  unfolding signal_values bit_at
-  values_next h rest_is =
-      let more : signals - k ≡ suc (signals - (k + 1)) = omega arith in
-      let value : 48 + bit (signal_on letter k) ≡ 48 + rest % 2 =
-      rw rest_is (ap (◌+◌ 48) (bit_eqb (letter / 2 ^ k % 2) (omega arith))) in
-      rw (more, add-one k, value)
+-- The value of signal k, and those behind it.
+module _ (signals k letter : ℕ) where
+  values_here : k < signals → signal_values (signals - k) k letter
+      ≡ (48 + bit (signal_on letter k)) ∷ signal_values (signals - (k + 1)) (k + 1) letter
+  unfolding signal_values
+  values_here h =
+      let more : signals - k ≡ suc (signals - (k + 1)) = omega arith in rw (more, add-one k)
 
-  pub rest_next : rest ≡ letter / 2 ^ k → rest / 2 ≡ letter / 2 ^ (k + 1)
-  rest_next rest_is = rw rest_is (shr-shr letter k 1)
+  pub values_on : k < signals → signal_on letter k ≡ true → signal_values (signals - k) k letter
+      ≡ 49 ∷ signal_values (signals - (k + 1)) (k + 1) letter
+  values_on h e = rw (values_here h, e)
+
+  pub values_off : k < signals → signal_on letter k ≡ false → signal_values (signals - k) k letter
+      ≡ 48 ∷ signal_values (signals - (k + 1)) (k + 1) letter
+  values_off h e = rw (values_here h, e)
 
   pub values_end : signals ≤ k → signal_values (signals - k) k letter ≡ []
   unfolding signal_values
   values_end h = let none : signals - k ≡ 0 = omega arith in rw none
 
-pub ruleset values = (pages, values_next, rest_next, values_end)
+-- The same, where `rest` is the letter without the signals before it.
+module _ (signals k letter rest : ℕ) where
+  pub values_next : k < signals → rest ≡ letter / 2 ^ k → signal_values (signals - k) k letter
+      ≡ (48 + rest % 2) ∷ signal_values (signals - (k + 1)) (k + 1) letter
+  unfolding bit_at
+  values_next h rest_is =
+      let value : 48 + bit (signal_on letter k) ≡ 48 + rest % 2 =
+      rw rest_is (ap (◌+◌ 48) (bit_eqb (letter / 2 ^ k % 2) (omega arith))) in
+      rw (values_here signals k letter h, value)
+
+  pub rest_next : rest ≡ letter / 2 ^ k → rest / 2 ≡ letter / 2 ^ (k + 1)
+  rest_next rest_is = rw rest_is (shr-shr letter k 1)
+
+pub ruleset values = (pages, values_on, values_off, values_next, rest_next, values_end)
 
 -- The line of tick i + 1, and those behind it.
 module _ (signals i : ℕ) (letters : List ℕ) where
