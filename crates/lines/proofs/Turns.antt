@@ -10,7 +10,8 @@ use Rattle.letters.proofs.Bits.{bit_eqb}
 use Rattle.letters.proofs.Members.{members_next, members_skip, members_end}
 use Rattle.lines.specs.Line.{signal_values, tick_line, tick_lines, row_numbers}
 
--- The value of signal k, and those behind it.
+-- The value of signal k, and those behind it, for who knows that it is on, or off. The loop goes by
+-- `values_next`.
 module _ (signals k letter : ℕ) where
   values_here : k < signals → signal_values (signals - k) k letter
       ≡ (48 + bit (signal_on letter k)) ∷ signal_values (signals - (k + 1)) (k + 1) letter
